@@ -1,0 +1,8 @@
+mod BlockOrder
+mod BlockRanks
+mod BlockRounds
+mod BlockTurns
+mod ListSteps
+mod SoundTests
+pub mod RunningDuties
+pub mod BlockDuties

@@ -1,0 +1,55 @@
+use borrow.Author.Needs.{needs}
+use mathlib.Core.List.{List}
+use mathlib.Core.Path.{_≡_, refl, sym, ap, subst, _∙_}
+use Prim.Native.Nat.{ℕ, _≤_}
+use native.Mathlib.Omega.{arith}
+use lib.ListN.{length}
+use Rattle.assignment.specs.BlockLaws.{Blockwise}
+use Rattle.assignment.specs.BlockShares.{State, blocks-of, by-remainder, last-pass}
+use Rattle.assignment.specs.BlockSteps.{Standing, Terms-of}
+use Rattle.assignment.specs.declared.block_shares.Terms.{Terms}
+use Rattle.assignment.proofs.BlockDuties.{floors-stand}
+use Rattle.assignment.proofs.BlockRanks.{blocks-blockwise}
+use Rattle.assignment.proofs.BlockTurns.{nobody-holds, rounded, start-written}
+use Rattle.assignment.proofs.block_shares.BlocksFit.ask.Needs as need
+
+abbrev terms : ℕ → ℕ → ℕ → Terms
+terms total block all = record { total = total; block = block; all = all }
+
+pub give-blocks-rest-requires : need.give-blocks-rest-requires
+give-blocks-rest-requires c κs =
+    let ok = c .in-Some .ensures tt in
+    let t = terms (c .args .total) (c .args .block) (c .in-Some .all) in
+    let os = c .args .open .now in
+    let none = nobody-holds (c .nobody-places .result) (length os) (c .nobody-places .ensures) (ok .0 .sound .few) in
+    record {
+      standing = subst (Standing t os) (sym none) (floors-stand t os (record { sound = ok .0 .sound; all-is = ok .1 }));
+      written = start-written t os _ _ none (c .write-floors-after-floors .ensures .written);
+    }
+
+pub give-rest-requires : need.give-rest-requires
+give-rest-requires c κs =
+    let ok = c .in-Some .ensures tt in
+    let t = terms (c .args .total) (c .args .block) (c .in-Some .all) in
+    let os = c .args .open .now in
+    let none = nobody-holds (c .nobody-places .result) (length os) (c .nobody-places .ensures) (ok .0 .sound .few) in
+    let e = c .give-blocks-rest .ensures in
+    let r = rounded t os _ _ _ _ (record { sound = ok .0 .sound; all-is = ok .1 }) (c .write-floors-after-floors .ensures .left) none (e .left) (e .held) in
+    record { standing = r .standing; written = e .written }
+
+pub returns : need.returns
+returns c =
+    let ok = c .in-Some .ensures tt in
+    let t = terms (c .args .total) (c .args .block) (c .in-Some .all) in
+    let os = c .args .open .now in
+    let none = nobody-holds (c .nobody-places .result) (length os) (c .nobody-places .ensures) (ok .0 .sound .few) in
+    let e = c .give-blocks-rest .ensures in
+    let r = rounded t os _ _ _ _ (record { sound = ok .0 .sound; all-is = ok .1 }) (c .write-floors-after-floors .ensures .left) none (e .left) (e .held) in
+    let is = c .give-rest .ensures
+    ∙ ap (λ (st : State). last-pass t (st .0) os (st .1)) (r .is)
+    ∙ ap (λ sum. blocks-of by-remainder (terms (c .args .total) (c .args .block) sum) os) (ok .1) in
+    record {
+      answered = (ok .0, is);
+      stays = refl;
+      blockwise = subst (Blockwise (c .args .total) (c .args .block) os) (sym is) (blocks-blockwise (c .args .total) (c .args .block) os (ok .0 .sound));
+    }

@@ -1,0 +1,80 @@
+use borrow.Author.Needs.{needs}
+use mathlib.Core.Path.{_≡_, refl, sym, ap, _∙_}
+use mathlib.Core.List.{List, _∷_, _++_}
+use Prim.Native.Nat.{ℕ, _+_, _*_, _/_, _-_, _<_}
+use native.Mathlib.Nat.{mul-zero, zero-div}
+use native.Mathlib.Omega.{arith}
+use lib.ListN.{length, take, drop, getD}
+use Rattle.std.proofs.shelf.Lists.{at-drop-more, at-drop-all}
+use Rattle.assignment.specs.Asks.{sum-of}
+use Rattle.assignment.specs.RunningSums.{running, running-from}
+use Rattle.assignment.proofs.ListSteps.{sum-drop-more, written-more, written-all}
+use Rattle.assignment.proofs.RunningDuties.{turn}
+use Rattle.assignment.proofs.running_sums.RunningFit.ask.Needs as need
+
+pub loop-i-holds : need.loop-i-holds
+loop-i-holds c =
+    let ok = c .in-Some .ensures tt in (
+      omega arith,
+      sym (ap (λ n. n / c .in-Some .sum) (mul-zero (c .args .total)) ∙ zero-div (c .in-Some .sum)),
+      ap (λ s. running-from (c .args .total) s 0 (c .args .open .now)) (ok .1),
+    )
+
+pub add-before : need.add-before
+add-before c =
+    let ok = c .in-Some .ensures tt in
+    let t = turn (c .args .total) (c .args .block) (c .args .open .now) (c .in-Some .sum) (c .loop-i .before) (c .loop-i .i) (ok .0 .sound) (ok .1) (c .loop-i .inv .0) (c .loop-i-test .taken) in
+    omega (arith, t .small)
+
+pub mul-due : need.mul-due
+mul-due c =
+    let ok = c .in-Some .ensures tt in
+    let t = turn (c .args .total) (c .args .block) (c .args .open .now) (c .in-Some .sum) (c .loop-i .before) (c .loop-i .i) (ok .0 .sound) (ok .1) (c .loop-i .inv .0) (c .loop-i-test .taken) in
+    omega (arith, t .product)
+
+pub div-due : need.div-due
+div-due c =
+    let ok = c .in-Some .ensures tt in
+    let t = turn (c .args .total) (c .args .block) (c .args .open .now) (c .in-Some .sum) (c .loop-i .before) (c .loop-i .i) (ok .0 .sound) (ok .1) (c .loop-i .inv .0) (c .loop-i-test .taken) in
+    t .positive
+
+pub sub-answer : need.sub-answer
+sub-answer c =
+    let ok = c .in-Some .ensures tt in
+    let t = turn (c .args .total) (c .args .block) (c .args .open .now) (c .in-Some .sum) (c .loop-i .before) (c .loop-i .i) (ok .0 .sound) (ok .1) (c .loop-i .inv .0) (c .loop-i-test .taken) in
+    omega (arith, t .grown, c .loop-i .inv .1)
+
+pub cast-answer : need.cast-answer
+cast-answer c =
+    let ok = c .in-Some .ensures tt in
+    let t = turn (c .args .total) (c .args .block) (c .args .open .now) (c .in-Some .sum) (c .loop-i .before) (c .loop-i .i) (ok .0 .sound) (ok .1) (c .loop-i .inv .0) (c .loop-i-test .taken) in
+    omega (arith, t .most, t .small, c .loop-i .inv .1)
+
+pub loop-i-again : need.loop-i-again
+loop-i-again c =
+    let ok = c .in-Some .ensures tt in
+    let os = c .args .open .now in
+    let i = c .loop-i .i in
+    let out = c .loop-i .answer in
+    let h = c .loop-i-test .taken in
+    let d = sum-drop-more os i h in
+    let due = c .args .total * (c .loop-i .before + getD os i 0) / c .in-Some .sum in
+    let rest = running-from (c .args .total) (c .in-Some .sum) (c .loop-i .before + getD os i 0) (drop (i + 1) os) in
+    let roomy = ok .0 .roomy in (
+      omega arith,
+      refl,
+      written-more out rest _ i (due - c .loop-i .paid) (omega arith) (
+          ap (λ p. take i out ++ ((due - p) ∷ rest)) (c .loop-i .inv .1)
+          ∙ sym (ap (λ ys. take i out ++ ys) (at-drop-more (running-from (c .args .total) (c .in-Some .sum) (c .loop-i .before)) os i 0 h))
+          ∙ c .loop-i .inv .2
+          ),
+    )
+
+pub returns : need.returns
+returns c =
+    let ok = c .in-Some .ensures tt in
+    let roomy = ok .0 .roomy in
+    record {
+      answered = (ok .0, written-all (c .loop-i .answer) _ _ (c .loop-i .i) (omega arith) (at-drop-all (running-from (c .args .total) (c .in-Some .sum) (c .loop-i .before)) (c .args .open .now) (c .loop-i .i) (c .loop-i-test .left)) (c .loop-i .inv .2));
+      stays = search needs;
+    }
