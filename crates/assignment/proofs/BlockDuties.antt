@@ -18,6 +18,7 @@ use Rattle.assignment.specs.BlockLaws.{Proper, Waits}
 use Rattle.assignment.specs.BlockShares.{Order, State, all-rounds, blocks-of, floor-share, floors, give, granted, last-part, last-pass, round, rounds, terms-of}
 use Rattle.assignment.specs.BlockSteps.{Apt, Standing, Terms-of, all-granted}
 use Rattle.assignment.specs.declared.block_shares.Terms.{Terms}
+use Rattle.assignment.proofs.ListSteps.{getD-le-sum}
 
 -- ---- the floor share
 pub divisor-pos : (t : Terms) → Apt t → 0 < t .all * t .block
@@ -169,15 +170,10 @@ module _ (next : Order) (proper : Proper next) where
 -- ---- the start
 pub apt-of : (t : Terms) (os : List ℕ) (i : ℕ) → Terms-of t os → i < length os → Apt t
 apt-of t os i terms h = record {
-  positive = omega (arith, terms .all-is, getD-le-sum os i h, terms .sound .each-open i h);
+  positive = omega (arith, terms .all-is, getD-le-sum os i h, terms .sound .opens .each-open i h);
   covered = omega (arith, terms .all-is, terms .sound .covered);
   block-least = terms .sound .block-least;
 }
-  where
-    getD-le-sum : (xs : List ℕ) (i : ℕ) → i < length xs → getD xs i 0 ≤ sum-of xs
-    getD-le-sum [] i h = omega arith
-    getD-le-sum (x ∷ xs) zero h = omega arith
-    getD-le-sum (x ∷ xs) (suc i) h = let rest = getD-le-sum xs i (omega arith) in omega arith
 
 floors-under : (t : Terms) → Apt t → (os : List ℕ) → sum-of (map (floor-share t) os) * t .all ≤ t .total * sum-of os
 floors-under t apt [] = omega arith

@@ -2,7 +2,7 @@ mod BlockOrder
 mod BlockRanks
 mod BlockRounds
 mod BlockTurns
-mod ListSteps
+pub mod ListSteps
 mod SoundTests
 pub mod RunningDuties
 pub mod BlockDuties

@@ -14,6 +14,11 @@ sum-drop-more xs i h = at-drop-more sum-of xs i 0 h
 pub sum-drop-all : (xs : List ℕ) (i : ℕ) → length xs ≤ i → sum-of (drop i xs) ≡ 0
 sum-drop-all xs i h = at-drop-all sum-of xs i h
 
+pub getD-le-sum : (xs : List ℕ) (i : ℕ) → i < length xs → getD xs i 0 ≤ sum-of xs
+getD-le-sum [] i h = absurd (omega arith)
+getD-le-sum (x ∷ xs) zero h = omega arith
+getD-le-sum (x ∷ xs) (suc i) h = let rest = getD-le-sum xs i (omega arith) in omega arith
+
 -- A loop that writes a list from its front: one more place, and the end.
 pub written-more : (out rest all : List ℕ) (i v : ℕ) → i < length out → take i out ++ (v ∷ rest) ≡ all → take (i + 1) (set out i v) ++ rest ≡ all
 written-more out rest all i v h e = ap (λ ys. ys ++ rest) (take-more-set out i v h) ∙ append-assoc (take i out) (v ∷ []) rest ∙ e

@@ -89,7 +89,7 @@ running-fits total block held sound = ⊎-elim some (λ z. empty (omega arith)) 
         }
 
     empty : sum-of held ≡ 0 → Fit total block held (running total held)
-    empty z = go held (none held (sound .each-open) z) (sound .covered)
+    empty z = go held (none held (sound .opens .each-open) z) (sound .covered)
       where
         go : (os : List ℕ) → length os ≡ 0 → total ≤ sum-of os → Fit total block os (running total os)
         go [] e c = record { long = refl; whole = omega arith; within = λ i h. absurd (omega arith); not-over = λ i h. absurd (omega arith); not-under = λ i h. absurd (omega arith) }
@@ -99,7 +99,6 @@ running-fits total block held sound = ⊎-elim some (λ z. empty (omega arith)) 
 pub record Turn (total all before o : ℕ) : Type 0 where
   pub positive : 0 < all
   pub small : before + o ≤ 2000000000
-  pub product : total * (before + o) ≤ 4000000000000000000
   pub grown : total * before / all ≤ total * (before + o) / all
   pub most : total * (before + o) / all - total * before / all ≤ o
 
@@ -107,15 +106,13 @@ pub turn : (total block : ℕ) (held : List ℕ) (all before i : ℕ) → Sound 
 turn total block held all before i sound e inv h =
     let o = getD held i 0 in
     let d = sum-drop-more held i h in
-    let one = sound .each-open i h in
+    let one = sound .opens .each-open i h in
     let pos : 0 < all = omega arith in
     let near-o = seller total all pos (omega (arith, sound .covered)) before o in
-    let t : total ≤ 2000000000 = omega (arith, sound .covered, sound .capped) in
-    let n : before + o ≤ 2000000000 = omega (arith, sound .capped) in
+    let n : before + o ≤ 2000000000 = omega (arith, sound .opens .capped) in
     record {
       positive = pos;
       small = n;
-      product = mul-le-mul t n;
       grown = rw (mul-add total before o) (grows (total * before) (total * o) all pos);
       most = near-o .most;
     }

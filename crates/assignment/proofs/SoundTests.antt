@@ -22,8 +22,7 @@ pub sound-by-test : (total block : ℕ) (positions : List ℕ) → leb (length p
 sound-by-test total block positions few opens capped covered least most = record {
   sound = record {
     few = leb-true _ _ few;
-    each-open = each-open positions opens;
-    capped = leb-true _ _ capped;
+    opens = record { each-open = each-open positions opens; capped = leb-true _ _ capped };
     covered = leb-true _ _ covered;
     block-least = leb-true _ _ least;
     block-most = leb-true _ _ most;

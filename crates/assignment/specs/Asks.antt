@@ -13,11 +13,15 @@ abbrev pub sum-of : List ℕ → ℕ
 sum-of [] = 0
 sum-of (x ∷ xs) = x + sum-of xs
 
--- A total, a block and the sellers' open positions that can be assigned.
-pub record Sound (total block : ℕ) (positions : List ℕ) : Type 0 where
-  pub few : length positions ≤ 256
+-- Open positions: each is at least 1, and they add up to at most 2,000,000,000.
+pub record Opens (positions : List ℕ) : Type 0 where
   pub each-open : (i : ℕ) → i < length positions → 1 ≤ getD positions i 0
   pub capped : sum-of positions ≤ 2000000000
+
+-- A total, a block and at most 256 open positions that can be assigned.
+pub record Sound (total block : ℕ) (positions : List ℕ) : Type 0 where
+  pub few : length positions ≤ 256
+  pub opens : Opens positions
   pub covered : total ≤ sum-of positions
   pub block-least : 1 ≤ block
   pub block-most : block ≤ 2000000000

@@ -3,7 +3,7 @@
 ghost use mathlib.Core.Bool.{false};
 ghost use mathlib.Core.List.{map};
 ghost use mathlib.Core.Path.{_≡_};
-ghost use Prim.Native.Nat.{_≤_};
+ghost use Prim.Native.Nat.{_-_, _≤_, min};
 ghost use lib.ListN.{length, replicate};
 ghost use Rattle.std.specs.declared.option.Option.the-variants.{None, Some};
 ghost use Rattle.std.specs.Slices.{found};
@@ -128,6 +128,14 @@ impl Terms {
         left
     }
 
+    // What a seller without a block gets of what is left.
+    fn part(self, left: u32, position: u32, share: u32) -> u32
+        requires { ⌜ share ≤ position ⌝ }
+        ensures { λ r. ⌜ r ≡ min left (min (self .block) (position - share)) ⌝ }
+    {
+        left.min(self.block.min(position - share))
+    }
+
     // Gives what is left to the sellers without a block, in list order.
     fn give_rest(self, mut left: u32, open: &[u32], held: &[bool], answer: &mut [u32])
         requires standing { ⌜ Standing self (now «open») (now held) ⌝ }
@@ -137,7 +145,7 @@ impl Terms {
         for i in 0..open.len() {
             if !held[i] {
                 let share = answer[i];
-                let part = left.min(self.block.min(open[i] - share));
+                let part = self.part(left, open[i], share);
                 answer[i] = share + part;
                 left -= part;
             }

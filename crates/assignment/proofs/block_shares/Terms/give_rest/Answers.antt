@@ -20,8 +20,8 @@ index-answer-i c = omega (arith, granted-places (c .args .self) (c .args .open .
 pub index-answer-i-then-not-held-i : need.index-answer-i-then-not-held-i
 index-answer-i-then-not-held-i c = omega (arith, granted-places (c .args .self) (c .args .open .now) (c .args .held .now) (c .args .answer .now) (c .pre .standing .long) (c .pre .written))
 
-pub sub-open : need.sub-open
-sub-open c =
+pub part-part-requires : need.part-part-requires
+part-part-requires c κs =
     let t = c .args .self in
     let o = getD (c .args .open .now) (c .loop-i .i) 0 in
     let has = granted-before t (c .args .open .now) (c .args .held .now) (c .args .answer .now) (c .loop-i .answer) (c .loop-i .i) (c .loop-i-test .taken) (c .pre .standing .long) (c .pre .written) (c .loop-i .inv .0) in
@@ -46,9 +46,9 @@ loop-i-again c =
           let without = w .if-not-held-i .taken in
           let last = ap (last-part t left o) without in
           let share = same ∙ ap (granted t o) without in
-          let part : w .min-part .result ≡ last-part t left o (getD held i false) =
-          w .min-part .ensures ∙ ap (λ n. min left n) (w .min .ensures ∙ ap (λ n. min (t .block) (o - n)) share) ∙ sym last in
-          turn (getD out i 0 + w .min-part .result) (w .answer-is) (ap (λ n. n + w .min-part .result) same ∙ ap (λ n. granted t o (getD held i false) + n) part) (w .left-is ∙ ap (λ n. left - n) part) (c .loop-i .inv .0) (c .loop-i .inv .1)
+          let part : w .part-part .result ≡ last-part t left o (getD held i false) =
+          w .part-part .ensures ∙ ap (λ n. min left (min (t .block) (o - n))) share ∙ sym last in
+          turn (getD out i 0 + w .part-part .result) (w .answer-is) (ap (λ n. n + w .part-part .result) same ∙ ap (λ n. granted t o (getD held i false) + n) part) (w .left-is ∙ ap (λ n. left - n) part) (c .loop-i .inv .0) (c .loop-i .inv .1)
       | else-not-held-i w ↦
           let none = ap (last-part t left o) (w .if-not-held-i .left) in
           turn (getD out i 0) (w .answer-is ∙ sym (set-getD out i 0)) (omega (arith, same, none)) (omega (arith, w .left-is, none)) (c .loop-i .inv .0) (c .loop-i .inv .1)

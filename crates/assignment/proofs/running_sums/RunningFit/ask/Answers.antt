@@ -26,14 +26,8 @@ add-before c =
     let t = turn (c .args .total) (c .args .block) (c .args .open .now) (c .in-Some .sum) (c .loop-i .before) (c .loop-i .i) (ok .0 .sound) (ok .1) (c .loop-i .inv .0) (c .loop-i-test .taken) in
     omega (arith, t .small)
 
-pub mul-due : need.mul-due
-mul-due c =
-    let ok = c .in-Some .ensures tt in
-    let t = turn (c .args .total) (c .args .block) (c .args .open .now) (c .in-Some .sum) (c .loop-i .before) (c .loop-i .i) (ok .0 .sound) (ok .1) (c .loop-i .inv .0) (c .loop-i-test .taken) in
-    omega (arith, t .product)
-
-pub div-due : need.div-due
-div-due c =
+pub due-to-due-requires : need.due-to-due-requires
+due-to-due-requires c κs =
     let ok = c .in-Some .ensures tt in
     let t = turn (c .args .total) (c .args .block) (c .args .open .now) (c .in-Some .sum) (c .loop-i .before) (c .loop-i .i) (ok .0 .sound) (ok .1) (c .loop-i .inv .0) (c .loop-i-test .taken) in
     t .positive
@@ -42,13 +36,13 @@ pub sub-answer : need.sub-answer
 sub-answer c =
     let ok = c .in-Some .ensures tt in
     let t = turn (c .args .total) (c .args .block) (c .args .open .now) (c .in-Some .sum) (c .loop-i .before) (c .loop-i .i) (ok .0 .sound) (ok .1) (c .loop-i .inv .0) (c .loop-i-test .taken) in
-    omega (arith, t .grown, c .loop-i .inv .1)
+    omega (arith, t .grown, c .loop-i .inv .1, c .due-to-due .ensures)
 
 pub cast-answer : need.cast-answer
 cast-answer c =
     let ok = c .in-Some .ensures tt in
     let t = turn (c .args .total) (c .args .block) (c .args .open .now) (c .in-Some .sum) (c .loop-i .before) (c .loop-i .i) (ok .0 .sound) (ok .1) (c .loop-i .inv .0) (c .loop-i-test .taken) in
-    omega (arith, t .most, t .small, c .loop-i .inv .1)
+    omega (arith, t .most, t .small, c .loop-i .inv .1, c .due-to-due .ensures)
 
 pub loop-i-again : need.loop-i-again
 loop-i-again c =
@@ -62,9 +56,10 @@ loop-i-again c =
     let rest = running-from (c .args .total) (c .in-Some .sum) (c .loop-i .before + getD os i 0) (drop (i + 1) os) in
     let roomy = ok .0 .roomy in (
       omega arith,
-      refl,
-      written-more out rest _ i (due - c .loop-i .paid) (omega arith) (
-          ap (λ p. take i out ++ ((due - p) ∷ rest)) (c .loop-i .inv .1)
+      c .due-to-due .ensures,
+      written-more out rest _ i (c .due-to-due .result - c .loop-i .paid) (omega arith) (
+          ap (λ n. take i out ++ ((n - c .loop-i .paid) ∷ rest)) (c .due-to-due .ensures)
+          ∙ ap (λ n. take i out ++ ((due - n) ∷ rest)) (c .loop-i .inv .1)
           ∙ sym (ap (λ ys. take i out ++ ys) (at-drop-more (running-from (c .args .total) (c .in-Some .sum) (c .loop-i .before)) os i 0 h))
           ∙ c .loop-i .inv .2
           ),

@@ -1,8 +1,8 @@
-use mathlib.Core.Path.{_≡_}
 use Prim.Native.Nat.{ℕ, _+_, _<_, _≤_}
-use lib.ListN.{getD, drop}
+use mathlib.Core.Path.{_≡_}
+use lib.ListN.{drop, getD}
 use Rattle.assignment.specs.Asks.{sum-of}
-use Rattle.assignment.proofs.asks.sound_sum.Given as given
+use Rattle.assignment.proofs.asks.open_sum.Given as given
 
 abbrev pub Inv-loop-position : given.InvT-loop-position
 Inv-loop-position l =

@@ -1,0 +1,3 @@
+pub mod Amounts
+pub mod Report
+pub mod Steps
