@@ -1,7 +1,7 @@
 -- A seller's step: its pro-rata level, and how far its amount is from it.
 use mathlib.Core.Bool.{cond}
-use mathlib.Core.List.{List, [], _∷_, _++_}
-use Prim.Native.Nat.{ℕ, _+_, _-_, _*_, _/_, _%_}
+use mathlib.Core.List.{List, _++_}
+use Prim.Native.Nat.{ℕ, _-_, _*_, _/_, _%_}
 use lib.Chars.{codes}
 use lib.Dec.{eqb, ltb}
 use Rattle.std.specs.Written.{decimal}

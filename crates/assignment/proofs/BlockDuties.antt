@@ -1,21 +1,21 @@
 -- Rule 2 fits, whatever proper order its blocks are given in.
 use mathlib.Core.Bool.{Bool, true, false, cond}
 use mathlib.Core.List.{List, [], _∷_, map}
-use mathlib.Core.Logic.{_⊎_, inl, inr, ⊎-elim}
-use mathlib.Core.Path.{_≡_, refl, sym, ap, subst, _∙_}
-use Prim.Native.Nat.{ℕ, zero, suc, _+_, _-_, _*_, _/_, _<_, _≤_, min}
+use mathlib.Core.Logic.{⊎-elim}
+use mathlib.Core.Path.{_≡_, refl, sym, ap, _∙_}
+use Prim.Native.Nat.{ℕ, zero, suc, _+_, _-_, _*_, _<_, _≤_, min}
 use native.Mathlib.Nat.{mul-le-mul-right, le-of-mul-le-mul-right, mul-pos}
 use native.Mathlib.Omega.{arith}
 use lib.Dec.{leb}
 use lib.ListN.{length, getD, set, replicate}
 use Rattle.std.proofs.shelf.Bits.{div-add-mod', mod-below}
-use Rattle.std.proofs.shelf.Lists.{length-replicate, length-set, getD-replicate, getD-set-same, getD-set-other}
+use Rattle.std.proofs.shelf.Lists.{length-replicate, length-set, getD-replicate, getD-set-other}
 use Rattle.std.proofs.shelf.Tests.{both-ways, cases-eq, cases-lt, cond-both, leb-true}
 use Rattle.std.specs.declared.option.Option.{Option}
 use Rattle.std.specs.declared.option.Option.the-variants.{Some, None}
 use Rattle.assignment.specs.Asks.{sum-of, Sound, Fit}
 use Rattle.assignment.specs.BlockLaws.{Proper, Waits}
-use Rattle.assignment.specs.BlockShares.{Order, State, all-rounds, blocks-of, floor-share, floors, give, granted, last-part, last-pass, round, rounds, terms-of}
+use Rattle.assignment.specs.BlockShares.{Order, State, blocks-of, floor-share, floors, give, granted, last-part, last-pass, round, rounds, terms-of}
 use Rattle.assignment.specs.BlockSteps.{Apt, Standing, Terms-of, all-granted}
 use Rattle.assignment.specs.declared.block_shares.Terms.{Terms}
 use Rattle.assignment.proofs.ListSteps.{getD-le-sum}
@@ -141,14 +141,14 @@ standing-more t os held i standing w = record {
 
 -- what rounds keep, with what is left
 pub record Going (t : Terms) (os : List ℕ) (st : State) : Type 0 where
-  pub standing : Standing t os (st .1)
-  pub whole : sum-of (all-granted t os (st .1)) + st .0 ≡ t .total
+  pub standing : Standing t os (st .held)
+  pub whole : sum-of (all-granted t os (st .held)) + st .left ≡ t .total
 
 module _ (next : Order) (proper : Proper next) where
-  give-keeps : (t : Terms) (os : List ℕ) (st : State) (chosen : Option ℕ) → next t os (st .1) ≡ chosen → t .block ≤ st .0 → Going t os st → Going t os (give t st chosen)
+  give-keeps : (t : Terms) (os : List ℕ) (st : State) (chosen : Option ℕ) → next t os (st .held) ≡ chosen → t .block ≤ st .left → Going t os st → Going t os (give t st chosen)
   give-keeps t os st None e enough going = going
   give-keeps t os st (Some i) e enough going =
-      let held = st .1 in
+      let held = st .held in
       let long = going .standing .long in
       let w = proper .picks t os held i long e in
       let lt : i < length (all-granted t os held) = omega (arith, granted-long t os held long, w .seller) in
@@ -159,8 +159,8 @@ module _ (next : Order) (proper : Proper next) where
 
   round-keeps : (t : Terms) (os : List ℕ) (st : State) → Going t os st → Going t os (round next t os st)
   round-keeps t os st going =
-      cond-both (leb (t .block) (st .0)) _ st (Going t os)
-      (λ e. give-keeps t os st (next t os (st .1)) refl (leb-true (t .block) (st .0) e) going)
+      cond-both (leb (t .block) (st .left)) _ st (Going t os)
+      (λ e. give-keeps t os st (next t os (st .held)) refl (leb-true (t .block) (st .left) e) going)
       (λ _. going)
 
   pub rounds-keep : (t : Terms) (os : List ℕ) (n : ℕ) (st : State) → Going t os st → Going t os (rounds next t os n st)
@@ -214,24 +214,24 @@ floors-going t (o ∷ os) terms = record {
 }
 
 -- ---- all of it
-going-fits : (t : Terms) (os : List ℕ) (st : State) → Apt t → Going t os st → Fit (t .total) (t .block) os (last-pass t (st .0) os (st .1))
+going-fits : (t : Terms) (os : List ℕ) (st : State) → Apt t → Going t os st → Fit (t .total) (t .block) os (last-pass t (st .left) os (st .held))
 going-fits t os st apt going =
     let standing = going .standing in
     let all-is = standing .terms .all-is in
-    let far = reach-all t apt os (st .1) (standing .long) in
-    let enough : t .total ≤ sum-of (all-granted t os (st .1)) + caps t os (st .1) = le-of-mul-le-mul-right {k = t .all} (rw (sym all-is) at far) (apt .positive) in
-    let total = last-pass-sum t (st .0) os (st .1) (standing .long) in
+    let far = reach-all t apt os (st .held) (standing .long) in
+    let enough : t .total ≤ sum-of (all-granted t os (st .held)) + caps t os (st .held) = le-of-mul-le-mul-right {k = t .all} (rw (sym all-is) at far) (apt .positive) in
+    let total = last-pass-sum t (st .left) os (st .held) (standing .long) in
     record {
-      long = last-pass-long t (st .0) os (st .1) (standing .long);
+      long = last-pass-long t (st .left) os (st .held) (standing .long);
       whole = omega (arith, going .whole);
-      within = λ i h. last-pass-each t apt (st .0) os (st .1) (standing .long) (standing .roomy) i h .within;
+      within = λ i h. last-pass-each t apt (st .left) os (st .held) (standing .long) (standing .roomy) i h .within;
       not-over = λ i h.
           let o = getD os i 0 in
-          let near = last-pass-each t apt (st .0) os (st .1) (standing .long) (standing .roomy) i h in
+          let near = last-pass-each t apt (st .left) os (st .held) (standing .long) (standing .roomy) i h in
           rw (sym all-is) (omega (arith, share-under t apt o, mul-le-mul-right (t .all) (near .most)));
       not-under = λ i h.
           let o = getD os i 0 in
-          let near = last-pass-each t apt (st .0) os (st .1) (standing .long) (standing .roomy) i h in
+          let near = last-pass-each t apt (st .left) os (st .held) (standing .long) (standing .roomy) i h in
           rw (sym all-is) (omega (arith, share-over t apt o, mul-le-mul-right (t .all) (near .least)));
     }
 

@@ -1,20 +1,19 @@
 -- Rule 2's order picks the first of those with the largest remainder.
-use mathlib.Core.Bool.{Bool, true, false, cond, not, _&&_}
+use mathlib.Core.Bool.{Bool, true, false, cond}
 use mathlib.Core.List.{List, [], _∷_}
-use mathlib.Core.Logic.{_⊎_, inl, inr, ⊎-elim}
+use mathlib.Core.Logic.{⊎-elim}
 use mathlib.Core.Path.{_≡_, refl, sym, ap, subst, _∙_}
-use Prim.Native.Nat.{ℕ, zero, suc, _+_, _-_, _*_, _<_, _≤_}
+use Prim.Native.Nat.{ℕ, zero, suc, _+_, _<_, _≤_}
 use native.Mathlib.Nat.{add-zero}
 use native.Mathlib.Omega.{arith}
-use lib.Dec.{leb, ltb}
 use lib.ListN.{length, getD}
-use Rattle.std.proofs.shelf.Tests.{and-from, and-parts, cases-bool, cases-lt, cond-false, cond-true, le-leb, le-ltb, leb-true, lt-ltb, not-from-false, not-true}
+use Rattle.std.proofs.shelf.Tests.{and-from, and-parts, cases-lt, cond-false, cond-true, le-leb, le-ltb, leb-true, lt-ltb, not-from-false, not-true}
 use Rattle.std.specs.Options.{mapped}
 use Rattle.std.specs.Slices.{found}
 use Rattle.std.specs.declared.option.Option.{Option}
 use Rattle.std.specs.declared.option.Option.the-variants.{Some, None}
 use Rattle.assignment.specs.BlockLaws.{Proper, Waits}
-use Rattle.assignment.specs.BlockShares.{by-remainder, claim-of, floor-share, remainder-of, stronger, strongest-from, waits}
+use Rattle.assignment.specs.BlockShares.{by-remainder, claim-of, remainder-of, stronger, strongest-from, waits}
 use Rattle.assignment.specs.declared.block_shares.Claim.{Claim}
 use Rattle.assignment.specs.declared.block_shares.Terms.{Terms}
 
@@ -51,14 +50,6 @@ record Top (t : Terms) (i : ℕ) (best : Option Claim) (os : List ℕ) (held : L
   most : (k : ℕ) → k < length os → strength (claim-at t i os held k) ≤ strength r
   kept : strength r ≤ strength best → r ≡ best
   new : strength best < strength r → (k : ℕ) × (k < length os) × (r ≡ claim-at t i os held k) × ((j : ℕ) → j < k → strength (claim-at t i os held j) < strength r)
-
--- a claim's strength does not depend on where its seller stands
-same-strength : (t : Terms) (i j o : ℕ) (has : Bool) → strength (claim-of t i o has) ≡ strength (claim-of t j o has)
-same-strength t i j o has = go (waits t o has)
-  where
-    go : (b : Bool) → strength (cond b (Some (record { seller = i; remainder = remainder-of t o })) None) ≡ strength (cond b (Some (record { seller = j; remainder = remainder-of t o })) None)
-    go true = refl
-    go false = refl
 
 top-cons : (t : Terms) (i : ℕ) (best : Option Claim) (o : ℕ) (has : Bool) (os : List ℕ) (held : List Bool) (r : Option Claim) → Top t (i + 1) (stronger best (claim-of t i o has)) os held r → Top t i best (o ∷ os) (has ∷ held) r
 top-cons t i best o has os held r rest = record {

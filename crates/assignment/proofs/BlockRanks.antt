@@ -1,22 +1,22 @@
 -- Rule 2 in words: who gets a block, how many are given, and what the others get.
-use mathlib.Core.Bool.{Bool, true, false, cond}
+use mathlib.Core.Bool.{Bool, true, false}
 use mathlib.Core.List.{List, [], _∷_, map}
-use mathlib.Core.Logic.{_⊎_, inl, inr, ⊎-elim}
-use mathlib.Core.Path.{_≡_, refl, sym, ap, subst, _∙_}
-use Prim.Native.Nat.{ℕ, zero, suc, _+_, _-_, _*_, _<_, _≤_, min}
+use mathlib.Core.Logic.{inl, inr, ⊎-elim}
+use mathlib.Core.Path.{_≡_, refl, sym, ap, _∙_}
+use Prim.Native.Nat.{ℕ, zero, suc, _+_, _-_, _*_, _<_, _≤_}
 use native.Mathlib.Omega.{arith}
 use lib.Dec.{leb}
 use lib.ListN.{length, getD, replicate, set}
 use Rattle.std.proofs.shelf.Lists.{getD-set-other, getD-set-same}
-use Rattle.std.proofs.shelf.Tests.{both-ways, cases-bool, cases-eq, cases-lt, cond-both}
+use Rattle.std.proofs.shelf.Tests.{both-ways, cases-eq, cases-lt, cond-both}
 use Rattle.std.specs.declared.option.Option.{Option}
 use Rattle.std.specs.declared.option.Option.the-variants.{Some, None}
 use Rattle.assignment.specs.Asks.{Sound, sum-of}
 use Rattle.assignment.specs.BlockLaws.{Before, Blockwise, Given, Holder, Waits, holders, most-rest}
-use Rattle.assignment.specs.BlockShares.{State, all-rounds, blocks, blocks-of, by-remainder, floor-share, floors, give, granted, last-part, last-pass, remainder-of, round, rounds, terms-of}
-use Rattle.assignment.specs.BlockSteps.{Apt, Standing, Terms-of, all-granted}
+use Rattle.assignment.specs.BlockShares.{State, all-rounds, blocks, by-remainder, floor-share, floors, give, granted, last-part, last-pass, remainder-of, round, rounds, terms-of}
+use Rattle.assignment.specs.BlockSteps.{all-granted}
 use Rattle.assignment.specs.declared.block_shares.Terms.{Terms}
-use Rattle.assignment.proofs.BlockDuties.{Going, floors-going, floors-stand, nobody-has, rounds-keep}
+use Rattle.assignment.proofs.BlockDuties.{Going, floors-going, nobody-has, rounds-keep}
 use Rattle.assignment.proofs.BlockOrder.{Picked, by-remainder-proper, picked}
 use Rattle.assignment.proofs.BlockRounds.{Settled, settled-after}
 
@@ -45,16 +45,16 @@ ranked-more t os held p long best ranked i j h has w =
     (cases-eq i p))
     (cases-eq j p)
 
-round-ranks : (t : Terms) (os : List ℕ) (st : State) → length (st .1) ≡ length os → Ranked t os (st .1) → Ranked t os (round by-remainder t os st .1)
+round-ranks : (t : Terms) (os : List ℕ) (st : State) → length (st .held) ≡ length os → Ranked t os (st .held) → Ranked t os (round by-remainder t os st .held)
 round-ranks t os st long ranked =
-    cond-both (leb (t .block) (st .0)) _ st (λ (s : State). Ranked t os (s .1)) (λ _. given (by-remainder t os (st .1)) refl) (λ _. ranked)
+    cond-both (leb (t .block) (st .left)) _ st (λ (s : State). Ranked t os (s .held)) (λ _. given (by-remainder t os (st .held)) refl) (λ _. ranked)
   where
-    given : (chosen : Option ℕ) → by-remainder t os (st .1) ≡ chosen → Ranked t os (give t st chosen .1)
+    given : (chosen : Option ℕ) → by-remainder t os (st .held) ≡ chosen → Ranked t os (give t st chosen .held)
     given None e = ranked
-    given (Some p) e = ranked-more t os (st .1) p long (picked t os (st .1) p long e) ranked
+    given (Some p) e = ranked-more t os (st .held) p long (picked t os (st .held) p long e) ranked
 
 -- `rounds-keep` says that the list of holders stays as long as the positions
-rounds-rank : (t : Terms) (os : List ℕ) (n : ℕ) (st : State) → Going t os st → Ranked t os (st .1) → Ranked t os (rounds by-remainder t os n st .1)
+rounds-rank : (t : Terms) (os : List ℕ) (n : ℕ) (st : State) → Going t os st → Ranked t os (st .held) → Ranked t os (rounds by-remainder t os n st .held)
 rounds-rank t os zero st going ranked = ranked
 rounds-rank t os (suc n) st going ranked =
     rounds-rank t os n (round by-remainder t os st) (rounds-keep by-remainder by-remainder-proper t os 1 st going) (round-ranks t os st (going .standing .long) ranked)
@@ -117,10 +117,10 @@ passed-in-order t left (o ∷ os) (has ∷ held) (suc i) (suc j) long lt h e f m
     passed-in-order t (left - last-part t left o has) os held i j (omega arith) (omega arith) (omega arith) e f more
 
 -- ---- all of it
-given-of : (t : Terms) (os : List ℕ) (st : State) → Going t os st → Settled t os st → Ranked t os (st .1) → Given t os (st .1) (last-pass t (st .0) os (st .1))
+given-of : (t : Terms) (os : List ℕ) (st : State) → Going t os st → Settled t os st → Ranked t os (st .held) → Given t os (st .held) (last-pass t (st .left) os (st .held))
 unfolding Settled Ranked
 given-of t os st going settled ranked =
-    let held = st .1 in
+    let held = st .held in
     let long = going .standing .long in
     let count = granted-sum t os held long in
     record {
@@ -128,11 +128,11 @@ given-of t os st going settled ranked =
       had-room = going .standing .roomy;
       ranked = ranked;
       afforded = omega (arith, going .whole);
-      no-fewer = ⊎-elim (λ (less : st .0 < t .block). inl (omega (arith, going .whole))) (λ (none : (i : ℕ) → Waits t os held i → ⊥). inr none) settled;
-      with-block = λ i h has. let p = passed t (st .0) os held i long h in with-block-gets t (p .0) (getD os i 0) _ (getD held i false) has (p .1);
-      at-least = λ i h. let p = passed t (st .0) os held i long h in gets-at-least t (p .0) (getD os i 0) _ (getD held i false) (p .1);
-      at-most = λ i h e. let p = passed t (st .0) os held i long h in gets-at-most t (p .0) (getD os i 0) _ (getD held i false) e (p .1);
-      in-order = λ i j lt h e f more. passed-in-order t (st .0) os held i j long lt h e f more;
+      no-fewer = ⊎-elim (λ (less : st .left < t .block). inl (omega (arith, going .whole))) (λ (none : (i : ℕ) → Waits t os held i → ⊥). inr none) settled;
+      with-block = λ i h has. let p = passed t (st .left) os held i long h in with-block-gets t (p .0) (getD os i 0) _ (getD held i false) has (p .1);
+      at-least = λ i h. let p = passed t (st .left) os held i long h in gets-at-least t (p .0) (getD os i 0) _ (getD held i false) (p .1);
+      at-most = λ i h e. let p = passed t (st .left) os held i long h in gets-at-most t (p .0) (getD os i 0) _ (getD held i false) e (p .1);
+      in-order = λ i j lt h e f more. passed-in-order t (st .left) os held i j long lt h e f more;
     }
 
 pub blocks-blockwise : (total block : ℕ) (positions : List ℕ) → Sound total block positions → Blockwise total block positions (blocks total block positions)
@@ -140,6 +140,6 @@ blocks-blockwise total block positions sound =
     let t = terms-of total block positions in
     let going = floors-going t positions (record { sound = sound; all-is = refl }) in
     let st = all-rounds by-remainder t positions in (
-      st .1,
+      st .held,
       given-of t positions st (rounds-keep by-remainder by-remainder-proper t positions (length positions) (floors t positions) going) (settled-after by-remainder by-remainder-proper t positions (floors t positions) (going .standing .long)) (rounds-rank t positions (length positions) (floors t positions) going (floors-ranked t positions)),
     )

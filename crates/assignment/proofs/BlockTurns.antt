@@ -1,6 +1,6 @@
 -- The turns of the loops of rule 2.
-use mathlib.Core.Bool.{Bool, true, false, cond}
-use mathlib.Core.List.{List, [], _∷_, _++_, map}
+use mathlib.Core.Bool.{Bool, true, false}
+use mathlib.Core.List.{List, _∷_, _++_, map}
 use mathlib.Core.Path.{_≡_, refl, sym, ap, subst, _∙_}
 use Prim.Native.Nat.{ℕ, _+_, _-_, _<_, _≤_}
 use native.Mathlib.Omega.{arith}
@@ -10,7 +10,7 @@ use Rattle.std.proofs.shelf.Tests.{cond-true, le-leb}
 use Rattle.std.specs.Options.{mapped}
 use Rattle.std.specs.declared.option.Option.the-variants.{Some, None}
 use Rattle.assignment.specs.BlockLaws.{Waits}
-use Rattle.assignment.specs.BlockShares.{State, all-rounds, by-remainder, floor-share, floors, give, granted, last-part, last-pass, round, rounds, strongest-from}
+use Rattle.assignment.specs.BlockShares.{State, all-rounds, by-remainder, floor-share, floors, give, granted, last-part, last-pass, round, rounds, state, strongest-from}
 use Rattle.assignment.specs.BlockSteps.{Standing, Terms-of, all-granted}
 use Rattle.assignment.specs.declared.block_shares.Claim.{Claim}
 use Rattle.assignment.specs.declared.block_shares.Terms.{Terms}
@@ -60,19 +60,19 @@ block-given t os held answer i standing written w =
     }
 
 -- and the rounds that are still to come
-pub rounds-given : (t : Terms) (os : List ℕ) (held : List Bool) (left : ℕ) (next : Claim) → length held ≡ length os → Some next ≡ strongest-from t 0 None os held → t .block ≤ left → rounds by-remainder t os (length os) (left - t .block, set held (next .seller) true) ≡ rounds by-remainder t os (length os) (left, held)
+pub rounds-given : (t : Terms) (os : List ℕ) (held : List Bool) (left : ℕ) (next : Claim) → length held ≡ length os → Some next ≡ strongest-from t 0 None os held → t .block ≤ left → rounds by-remainder t os (length os) (state (left - t .block) (set held (next .seller) true)) ≡ rounds by-remainder t os (length os) (state left held)
 rounds-given t os held left next long is enough =
-    let first : round by-remainder t os (left, held) ≡ (left - t .block, set held (next .seller) true) =
-    cond-true _ _ _ (le-leb (t .block) left enough) ∙ ap (give t (left, held)) (sym (ap (mapped (λ (c : Claim). c .seller)) is)) in
-    ap (rounds by-remainder t os (length os)) (sym first) ∙ rounds-next by-remainder by-remainder-proper t os (left, held) long
+    let first : round by-remainder t os (state left held) ≡ (state (left - t .block) (set held (next .seller) true)) =
+    cond-true _ _ _ (le-leb (t .block) left enough) ∙ ap (give t (state left held)) (sym (ap (mapped (λ (c : Claim). c .seller)) is)) in
+    ap (rounds by-remainder t os (length os)) (sym first) ∙ rounds-next by-remainder by-remainder-proper t os (state left held) long
 
 -- the end, where too little is left or nobody waits
-pub rounds-short : (t : Terms) (os : List ℕ) (held : List Bool) (left : ℕ) → length held ≡ length os → left < t .block → rounds by-remainder t os (length os) (left, held) ≡ (left, held)
-rounds-short t os held left long less = rounds-done by-remainder by-remainder-proper t os (length os) (left, held) long (settled-less t os held left less)
+pub rounds-short : (t : Terms) (os : List ℕ) (held : List Bool) (left : ℕ) → length held ≡ length os → left < t .block → rounds by-remainder t os (length os) (state left held) ≡ (state left held)
+rounds-short t os held left long less = rounds-done by-remainder by-remainder-proper t os (length os) (state left held) long (settled-less t os held left less)
 
-pub rounds-unclaimed : (t : Terms) (os : List ℕ) (held : List Bool) (left : ℕ) → length held ≡ length os → None ≡ strongest-from t 0 None os held → rounds by-remainder t os (length os) (left, held) ≡ (left, held)
+pub rounds-unclaimed : (t : Terms) (os : List ℕ) (held : List Bool) (left : ℕ) → length held ≡ length os → None ≡ strongest-from t 0 None os held → rounds by-remainder t os (length os) (state left held) ≡ (state left held)
 rounds-unclaimed t os held left long is =
-    rounds-done by-remainder by-remainder-proper t os (length os) (left, held) long (settled-none by-remainder by-remainder-proper t os held left long (sym (ap (mapped (λ (c : Claim). c .seller)) is)))
+    rounds-done by-remainder by-remainder-proper t os (length os) (state left held) long (settled-none by-remainder by-remainder-proper t os held left long (sym (ap (mapped (λ (c : Claim). c .seller)) is)))
 
 -- ---- from the floors to the last pass
 -- the front of the places for holders, as many as there are sellers
@@ -84,16 +84,16 @@ start-written t os held answer e f = f ∙ sym (granted-none t os) ∙ ap (all-g
 
 -- what the rounds leave, from a start that is the floors
 pub record Rounded (t : Terms) (os : List ℕ) (left : ℕ) (held : List Bool) : Type 0 where
-  pub is : _≡_ {A = State} (left, held) (all-rounds by-remainder t os)
+  pub is : _≡_ {A = State} (state left held) (all-rounds by-remainder t os)
   pub standing : Standing t os held
 
-pub rounded : (t : Terms) (os : List ℕ) (left₀ : ℕ) (held₀ : List Bool) (left : ℕ) (held : List Bool) → Terms-of t os → left₀ ≡ floors t os .0 → held₀ ≡ replicate (length os) false → left ≡ rounds by-remainder t os (length os) (left₀, held₀) .0 → held ≡ rounds by-remainder t os (length os) (left₀, held₀) .1 → Rounded t os left held
-rounded t os left₀ held₀ left held terms left₀-is held₀-is left-is held-is = record { is = is; standing = subst (λ (st : State). Standing t os (st .1)) (sym is) (rounds-keep by-remainder by-remainder-proper t os (length os) (floors t os) (floors-going t os terms) .standing) }
+pub rounded : (t : Terms) (os : List ℕ) (left₀ : ℕ) (held₀ : List Bool) (left : ℕ) (held : List Bool) → Terms-of t os → left₀ ≡ floors t os .left → held₀ ≡ replicate (length os) false → left ≡ rounds by-remainder t os (length os) (state left₀ held₀) .left → held ≡ rounds by-remainder t os (length os) (state left₀ held₀) .held → Rounded t os left held
+rounded t os left₀ held₀ left held terms left₀-is held₀-is left-is held-is = record { is = is; standing = subst (λ (st : State). Standing t os (st .held)) (sym is) (rounds-keep by-remainder by-remainder-proper t os (length os) (floors t os) (floors-going t os terms) .standing) }
   where
-    pair : (a b : ℕ) (xs ys : List Bool) → a ≡ b → xs ≡ ys → _≡_ {A = State} (a, xs) (b, ys)
+    pair : (a b : ℕ) (xs ys : List Bool) → a ≡ b → xs ≡ ys → _≡_ {A = State} (state a xs) (state b ys)
     pair a b xs ys p q = cc
 
-    is : _≡_ {A = State} (left, held) (all-rounds by-remainder t os)
+    is : _≡_ {A = State} (state left held) (all-rounds by-remainder t os)
     is =
         pair _ _ _ _ left-is held-is
         ∙ ap (rounds by-remainder t os (length os)) (pair _ _ _ _ left₀-is held₀-is)

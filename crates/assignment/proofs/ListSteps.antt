@@ -5,7 +5,7 @@ use Prim.Native.Nat.{ℕ, zero, suc, _+_, _<_, _≤_}
 use native.Mathlib.Omega.{arith}
 use lib.ListN.{length, getD, take, drop, set}
 use native.Mathlib.Nat.{add-zero}
-use Rattle.std.proofs.shelf.Lists.{at-drop-more, at-drop-all, take-more, take-more-set, take-all, append-nil, drop-set-lt, drop-drop, getD-drop}
+use Rattle.std.proofs.shelf.Lists.{at-drop-more, at-drop-all, take-more-set, take-all, append-nil, drop-set-lt, drop-drop, getD-drop}
 use Rattle.assignment.specs.Asks.{sum-of}
 
 pub sum-drop-more : (xs : List ℕ) (i : ℕ) → i < length xs → sum-of (drop i xs) ≡ getD xs i 0 + sum-of (drop (i + 1) xs)
@@ -34,12 +34,5 @@ at-drop-two F xs ys i d e h l = at-drop-more (λ zs. F zs (drop i ys)) xs i d h 
 pub rest-more : (out before : List ℕ) (i v : ℕ) → drop i out ≡ drop i before → drop (i + 1) (set out i v) ≡ drop (i + 1) before
 rest-more out before i v e = drop-set-lt (i + 1) out i v (omega arith) ∙ sym (drop-drop 1 i out) ∙ ap (drop 1) e ∙ drop-drop 1 i before
 
-pub rest-kept : (out before : List ℕ) (i : ℕ) → drop i out ≡ drop i before → drop (i + 1) out ≡ drop (i + 1) before
-rest-kept out before i e = sym (drop-drop 1 i out) ∙ ap (drop 1) e ∙ drop-drop 1 i before
-
 pub rest-at : (out before : List ℕ) (i : ℕ) → drop i out ≡ drop i before → getD out i 0 ≡ getD before i 0
 rest-at out before i e = ap (λ k. getD out k 0) (sym (add-zero i)) ∙ sym (getD-drop i out 0 0) ∙ ap (λ ys. getD ys 0 0) e ∙ getD-drop i before 0 0 ∙ ap (λ k. getD before k 0) (add-zero i)
-
--- a place that stays as it is
-pub kept-more : (out rest all : List ℕ) (i : ℕ) → i < length out → take i out ++ (getD out i 0 ∷ rest) ≡ all → take (i + 1) out ++ rest ≡ all
-kept-more out rest all i h e = ap (λ ys. ys ++ rest) (take-more out i 0 h) ∙ append-assoc (take i out) (getD out i 0 ∷ []) rest ∙ e

@@ -1,9 +1,9 @@
 -- The running rule fits.
 use mathlib.Core.Path.{_≡_, refl, sym, ap, _∙_}
 use mathlib.Core.List.{List, [], _∷_}
-use mathlib.Core.Logic.{_⊎_, inl, inr, ⊎-elim}
-use Prim.Native.Nat.{ℕ, zero, suc, _+_, _-_, _*_, _/_, _%_, _<_, _≤_}
-use native.Mathlib.Nat.{mul-le-mul-left, mul-le-mul-right, mul-add, add-mul, mul-comm, zero-add, add-zero, add-assoc, mul-div-cancel, mul-zero, zero-div, mul-le-mul}
+use mathlib.Core.Logic.{⊎-elim}
+use Prim.Native.Nat.{ℕ, zero, suc, _+_, _-_, _*_, _/_, _<_, _≤_}
+use native.Mathlib.Nat.{mul-le-mul-right, mul-add, add-mul, zero-add, add-zero, add-assoc, mul-div-cancel, mul-zero, zero-div}
 use native.Mathlib.Omega.{arith}
 use lib.ListN.{length, getD, drop}
 use Rattle.std.proofs.shelf.Bits.{div-add-mod', mod-below, div-below, le-div}
@@ -65,31 +65,31 @@ module _ (total all : ℕ) (some : 0 < all) (covered : total ≤ all) where
   each before (o ∷ os) zero h = seller before o
   each before (o ∷ os) (suc i) h = each (before + o) os i (omega arith)
 
--- a sum-of that is 0 has no sellers
-none : (held : List ℕ) → ((i : ℕ) → i < length held → 1 ≤ getD held i 0) → sum-of held ≡ 0 → length held ≡ 0
+-- where the positions add up to 0 there is no seller
+none : (positions : List ℕ) → ((i : ℕ) → i < length positions → 1 ≤ getD positions i 0) → sum-of positions ≡ 0 → length positions ≡ 0
 none [] each-open e = refl
 none (o ∷ os) each-open e = absurd (omega (arith, each-open 0 (omega arith)))
 
-pub running-fits : (total block : ℕ) (held : List ℕ) → Sound total block held → Fit total block held (running total held)
-running-fits total block held sound = ⊎-elim some (λ z. empty (omega arith)) (cases-lt 0 (sum-of held))
+pub running-fits : (total block : ℕ) (positions : List ℕ) → Sound total block positions → Fit total block positions (running total positions)
+running-fits total block positions sound = ⊎-elim some (λ z. empty (omega arith)) (cases-lt 0 (sum-of positions))
   where
-    some : 0 < sum-of held → Fit total block held (running total held)
+    some : 0 < sum-of positions → Fit total block positions (running total positions)
     some pos =
-        let s = sum-of held in
+        let s = sum-of positions in
         let b : s ≤ block * s = omega (arith, mul-le-mul-right s (sound .block-least)) in
         let full : total * (0 + s) / s ≡ total = ap (λ n. total * n / s) (zero-add s) ∙ mul-div-cancel total pos in
         let start : total * 0 / s ≡ 0 = ap (λ n. n / s) (mul-zero total) ∙ zero-div s in
-        let w = whole total s pos (sound .covered) 0 held in
+        let w = whole total s pos (sound .covered) 0 positions in
         record {
-          long = long total s pos (sound .covered) 0 held;
+          long = long total s pos (sound .covered) 0 positions;
           whole = omega arith;
-          within = λ i h. each total s pos (sound .covered) 0 held i h .most;
-          not-over = λ i h. omega (arith, each total s pos (sound .covered) 0 held i h .over);
-          not-under = λ i h. omega (arith, each total s pos (sound .covered) 0 held i h .under);
+          within = λ i h. each total s pos (sound .covered) 0 positions i h .most;
+          not-over = λ i h. omega (arith, each total s pos (sound .covered) 0 positions i h .over);
+          not-under = λ i h. omega (arith, each total s pos (sound .covered) 0 positions i h .under);
         }
 
-    empty : sum-of held ≡ 0 → Fit total block held (running total held)
-    empty z = go held (none held (sound .opens .each-open) z) (sound .covered)
+    empty : sum-of positions ≡ 0 → Fit total block positions (running total positions)
+    empty z = go positions (none positions (sound .opens .each-open) z) (sound .covered)
       where
         go : (os : List ℕ) → length os ≡ 0 → total ≤ sum-of os → Fit total block os (running total os)
         go [] e c = record { long = refl; whole = omega arith; within = λ i h. absurd (omega arith); not-over = λ i h. absurd (omega arith); not-under = λ i h. absurd (omega arith) }
@@ -102,10 +102,10 @@ pub record Turn (total all before o : ℕ) : Type 0 where
   pub grown : total * before / all ≤ total * (before + o) / all
   pub most : total * (before + o) / all - total * before / all ≤ o
 
-pub turn : (total block : ℕ) (held : List ℕ) (all before i : ℕ) → Sound total block held → all ≡ sum-of held → before + sum-of (drop i held) ≡ sum-of held → i < length held → Turn total all before (getD held i 0)
-turn total block held all before i sound e inv h =
-    let o = getD held i 0 in
-    let d = sum-drop-more held i h in
+pub turn : (total block : ℕ) (positions : List ℕ) (all before i : ℕ) → Sound total block positions → all ≡ sum-of positions → before + sum-of (drop i positions) ≡ sum-of positions → i < length positions → Turn total all before (getD positions i 0)
+turn total block positions all before i sound e inv h =
+    let o = getD positions i 0 in
+    let d = sum-drop-more positions i h in
     let one = sound .opens .each-open i h in
     let pos : 0 < all = omega arith in
     let near-o = seller total all pos (omega (arith, sound .covered)) before o in

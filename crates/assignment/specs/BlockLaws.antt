@@ -5,10 +5,9 @@ use mathlib.Core.Logic.{_⊎_}
 use mathlib.Core.Path.{_≡_}
 use Prim.Native.Nat.{ℕ, _+_, _-_, _*_, _<_, _≤_, min}
 use lib.ListN.{length, getD}
-use Rattle.std.specs.declared.option.Option.{Option}
 use Rattle.std.specs.declared.option.Option.the-variants.{Some, None}
-use Rattle.assignment.specs.Asks.{sum-of}
-use Rattle.assignment.specs.BlockShares.{Order, floor-share, remainder-of, terms-of}
+use Rattle.assignment.specs.Asks.{Fit, Sound, sum-of}
+use Rattle.assignment.specs.BlockShares.{Order, blocks-of, by-remainder, floor-share, remainder-of, terms-of}
 use Rattle.assignment.specs.declared.block_shares.Terms.{Terms}
 
 -- The seller i has room for a block on top of its floor share.
@@ -29,6 +28,12 @@ pub record Waits (t : Terms) (os : List ℕ) (held : List Bool) (i : ℕ) : Type
 pub record Proper (next : Order) : Type 0 where
   pub picks : (t : Terms) (os : List ℕ) (held : List Bool) (i : ℕ) → length held ≡ length os → next t os held ≡ Some i → Waits t os held i
   pub ends : (t : Terms) (os : List ℕ) (held : List Bool) → length held ≡ length os → next t os held ≡ None → (i : ℕ) → Waits t os held i → ⊥
+
+-- The amounts fit whatever proper order blocks are given in, and rule 2's is one.
+abbrev pub Fits-in-any-order : Type 0
+Fits-in-any-order =
+    ((next : Order) → Proper next → (total block : ℕ) (positions : List ℕ) → Sound total block positions → Fit total block positions (blocks-of next (terms-of total block positions) positions))
+    × Proper by-remainder
 
 -- The seller i ranks before the seller j: its remainder is larger, or the same and it stands earlier.
 abbrev pub Before : Terms → List ℕ → ℕ → ℕ → Type 0

@@ -1,10 +1,9 @@
 -- Rule 2: floor shares, then whole blocks one by one, then the rest in list order.
 use mathlib.Core.Bool.{Bool, true, false, cond, not, _&&_}
 use mathlib.Core.List.{List, [], _∷_, map}
-use mathlib.Core.Path.{_≡_}
-use Prim.Native.Nat.{ℕ, zero, suc, _+_, _-_, _*_, _/_, _<_, _≤_, min}
+use Prim.Native.Nat.{ℕ, zero, suc, _+_, _-_, _*_, _/_, min}
 use lib.Dec.{leb, ltb}
-use lib.ListN.{length, getD, set, replicate}
+use lib.ListN.{length, set, replicate}
 use Rattle.std.specs.Options.{mapped}
 use Rattle.std.specs.declared.option.Option.{Option}
 use Rattle.std.specs.declared.option.Option.the-variants.{Some, None}
@@ -29,8 +28,13 @@ abbrev pub waits : Terms → ℕ → Bool → Bool
 waits t o has = not has && has-room t o
 
 -- What is left of the total, and who has a block, in list order.
-abbrev pub State : Type 0
-State = ℕ × List Bool
+pub record State : Type 0 where
+  pub left : ℕ
+  pub held : List Bool
+
+-- Such a state.
+abbrev pub state : ℕ → List Bool → State
+state left held = record { left = left; held = held }
 
 -- Who is next to get a block, if anybody is, by the positions and by who has one already.
 abbrev pub Order : Type 0
@@ -39,11 +43,11 @@ Order = Terms → List ℕ → List Bool → Option ℕ
 -- One block given to a seller.
 abbrev pub give : Terms → State → Option ℕ → State
 give t st None = st
-give t st (Some seller) = (st .0 - t .block, set (st .1) seller true)
+give t st (Some seller) = state (st .left - t .block) (set (st .held) seller true)
 
 -- One round: where a block is left, the seller who is next gets it.
 abbrev pub round : Order → Terms → List ℕ → State → State
-round next t os st = cond (leb (t .block) (st .0)) (give t st (next t os (st .1))) st
+round next t os st = cond (leb (t .block) (st .left)) (give t st (next t os (st .held))) st
 
 -- So many rounds.
 abbrev pub rounds : Order → Terms → List ℕ → ℕ → State → State
@@ -52,7 +56,7 @@ rounds next t os (suc n) st = rounds next t os n (round next t os st)
 
 -- The start: the total less all floor shares is left, and nobody has a block.
 abbrev pub floors : Terms → List ℕ → State
-floors t os = (t .total - sum-of (map (floor-share t) os), replicate (length os) false)
+floors t os = state (t .total - sum-of (map (floor-share t) os)) (replicate (length os) false)
 
 -- As many rounds as there are sellers: since each gives a block to one who had none, more would give nothing.
 abbrev pub all-rounds : Order → Terms → List ℕ → State
@@ -76,7 +80,7 @@ last-pass t left (o ∷ os) (has ∷ held) =
 
 -- The amounts of an ask, by who is next.
 abbrev pub blocks-of : Order → Terms → List ℕ → List ℕ
-blocks-of next t os = let st = all-rounds next t os in last-pass t (st .0) os (st .1)
+blocks-of next t os = let st = all-rounds next t os in last-pass t (st .left) os (st .held)
 
 -- The terms of an ask.
 abbrev pub terms-of : ℕ → ℕ → List ℕ → Terms

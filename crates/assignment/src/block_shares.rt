@@ -9,8 +9,8 @@ ghost use Rattle.std.specs.declared.option.Option.the-variants.{None, Some};
 ghost use Rattle.std.specs.Slices.{found};
 ghost use Rattle.std.specs.Vec.{made};
 ghost use Rattle.assignment.specs.Asks.{Answered, SoundAsk};
-ghost use Rattle.assignment.specs.BlockLaws.{Blockwise, Waits};
-ghost use Rattle.assignment.specs.BlockShares.{blocks, by-remainder, claim-of, floor-share, floors, last-pass, rounds, stronger, strongest-from};
+ghost use Rattle.assignment.specs.BlockLaws.{Blockwise, Fits-in-any-order, Waits};
+ghost use Rattle.assignment.specs.BlockShares.{blocks, by-remainder, claim-of, floor-share, floors, last-pass, rounds, state, stronger, strongest-from};
 ghost use Rattle.assignment.specs.BlockSteps.{Apt, Standing, Terms-of, all-granted};
 use crate::asks::MOST_SELLERS;
 use crate::asks::sound_sum;
@@ -97,7 +97,7 @@ impl Terms {
     fn write_floors(self, open: &[u32], answer: &mut [u32]) -> u32
         requires terms { ⌜ Terms-of self (now «open») ⌝ }
         requires roomy { ⌜ length (now answer) ≡ length (now «open») ⌝ }
-        ensures left { λ r. ⌜ r ≡ floors self (now («open» .entry)) .0 ⌝ }
+        ensures left { λ r. ⌜ r ≡ floors self (now («open» .entry)) .left ⌝ }
         ensures written { λ _. ⌜ now (answer .exit) ≡ map (floor-share self) (now («open» .entry)) ⌝ }
     {
         let mut left = self.total;
@@ -113,8 +113,8 @@ impl Terms {
     fn give_blocks(self, mut left: u32, open: &[u32], held: &mut [bool], answer: &mut [u32]) -> u32
         requires standing { ⌜ Standing self (now «open») (now held) ⌝ }
         requires written { ⌜ now answer ≡ all-granted self (now «open») (now held) ⌝ }
-        ensures left { λ r. ⌜ r ≡ rounds by-remainder self (now («open» .entry)) (length (now («open» .entry))) (left, now (held .entry)) .0 ⌝ }
-        ensures held { λ _. ⌜ now (held .exit) ≡ rounds by-remainder self (now («open» .entry)) (length (now («open» .entry))) (left, now (held .entry)) .1 ⌝ }
+        ensures left { λ r. ⌜ r ≡ rounds by-remainder self (now («open» .entry)) (length (now («open» .entry))) (state left (now (held .entry))) .left ⌝ }
+        ensures held { λ _. ⌜ now (held .exit) ≡ rounds by-remainder self (now («open» .entry)) (length (now («open» .entry))) (state left (now (held .entry))) .held ⌝ }
         ensures written { λ _. ⌜ now (answer .exit) ≡ all-granted self (now («open» .entry)) (now (held .exit)) ⌝ }
     {
         while left >= self.block {
@@ -184,3 +184,8 @@ pub impl FitRule for Blocks as BlocksFit {
         Ok(())
     }
 }
+
+// That the amounts of rule 2 fit does not depend on who is next.
+pub fn blocks_fit_in_any_order()
+    ensures { λ _. ⌜ Fits-in-any-order ⌝ }
+{}

@@ -7,11 +7,11 @@ mod fit_rules;
 mod running_sums;
 mod worked_asks;
 
-pub use asks::MOST_SELLERS;
 pub use asks::sound_sum;
 pub use block_shares::Blocks;
 pub use block_shares::BlocksFit;
 pub use block_shares::BlocksRule;
+pub use block_shares::blocks_fit_in_any_order;
 pub use choices::Choice;
 pub use choices::ChoiceFit;
 pub use fit_rules::AssignmentRule;

@@ -1,8 +1,8 @@
-use mathlib.Core.List.{List, _++_}
+use mathlib.Core.List.{List}
 use mathlib.Core.Path.{_≡_, sym, ap, subst, _∙_}
 use Prim.Native.Nat.{ℕ}
 use native.Mathlib.Omega.{arith}
-use lib.ListN.{drop, length, take}
+use lib.ListN.{drop, length}
 use Rattle.std.proofs.shelf.Lists.{take-at}
 use Rattle.std.specs.Of.Vec.{vec-items}
 use Rattle.assignment.specs.Asks.{Fit, SoundAsk}

@@ -1,12 +1,9 @@
-use borrow.Author.Needs.{needs}
-use mathlib.Core.List.{List}
-use mathlib.Core.Path.{_≡_, refl, sym, ap, subst, _∙_}
-use Prim.Native.Nat.{ℕ, _≤_}
-use native.Mathlib.Omega.{arith}
+use mathlib.Core.Path.{refl, sym, ap, subst, _∙_}
+use Prim.Native.Nat.{ℕ}
 use lib.ListN.{length}
 use Rattle.assignment.specs.BlockLaws.{Blockwise}
 use Rattle.assignment.specs.BlockShares.{State, blocks-of, by-remainder, last-pass}
-use Rattle.assignment.specs.BlockSteps.{Standing, Terms-of}
+use Rattle.assignment.specs.BlockSteps.{Standing}
 use Rattle.assignment.specs.declared.block_shares.Terms.{Terms}
 use Rattle.assignment.proofs.BlockDuties.{floors-stand}
 use Rattle.assignment.proofs.BlockRanks.{blocks-blockwise}
@@ -46,7 +43,7 @@ returns c =
     let e = c .give-blocks-rest .ensures in
     let r = rounded t os _ _ _ _ (record { sound = ok .0 .sound; all-is = ok .1 }) (c .write-floors-after-floors .ensures .left) none (e .left) (e .held) in
     let is = c .give-rest .ensures
-    ∙ ap (λ (st : State). last-pass t (st .0) os (st .1)) (r .is)
+    ∙ ap (λ (st : State). last-pass t (st .left) os (st .held)) (r .is)
     ∙ ap (λ sum. blocks-of by-remainder (terms (c .args .total) (c .args .block) sum) os) (ok .1) in
     record {
       answered = (ok .0, is);

@@ -2,7 +2,7 @@ use mathlib.Core.Path.{_≡_, refl, sym, ap, _∙_}
 use mathlib.Core.Bool.{false}
 use Prim.Native.Nat.{ℕ, _+_, _-_, min}
 use native.Mathlib.Omega.{arith}
-use lib.ListN.{length, drop, getD}
+use lib.ListN.{drop, getD}
 use Rattle.assignment.specs.BlockShares.{granted, last-part, last-pass}
 use Rattle.assignment.proofs.BlockDuties.{apt-of, share-le}
 use Rattle.assignment.proofs.BlockTurns.{granted-before, granted-places, rest-turn}

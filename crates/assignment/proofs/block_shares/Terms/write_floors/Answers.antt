@@ -1,8 +1,8 @@
 use mathlib.Core.List.{map, _∷_, _++_}
-use mathlib.Core.Path.{_≡_, refl, sym, ap, _∙_}
+use mathlib.Core.Path.{refl, sym, ap, _∙_}
 use Prim.Native.Nat.{_+_}
 use native.Mathlib.Omega.{arith}
-use lib.ListN.{length, drop, getD, take}
+use lib.ListN.{drop, take}
 use Rattle.std.proofs.shelf.Lists.{at-drop-more, at-drop-all}
 use Rattle.assignment.specs.Asks.{sum-of}
 use Rattle.assignment.specs.BlockShares.{floor-share}

@@ -1,13 +1,12 @@
 use borrow.Author.Needs.{needs}
-use mathlib.Core.Path.{_≡_, refl, sym, ap, _∙_}
-use mathlib.Core.List.{List, _∷_, _++_}
-use Prim.Native.Nat.{ℕ, _+_, _*_, _/_, _-_, _<_}
+use mathlib.Core.Path.{sym, ap, _∙_}
+use mathlib.Core.List.{_∷_, _++_}
+use Prim.Native.Nat.{_+_, _*_, _/_, _-_}
 use native.Mathlib.Nat.{mul-zero, zero-div}
 use native.Mathlib.Omega.{arith}
-use lib.ListN.{length, take, drop, getD}
+use lib.ListN.{take, drop, getD}
 use Rattle.std.proofs.shelf.Lists.{at-drop-more, at-drop-all}
-use Rattle.assignment.specs.Asks.{sum-of}
-use Rattle.assignment.specs.RunningSums.{running, running-from}
+use Rattle.assignment.specs.RunningSums.{running-from}
 use Rattle.assignment.proofs.ListSteps.{sum-drop-more, written-more, written-all}
 use Rattle.assignment.proofs.RunningDuties.{turn}
 use Rattle.assignment.proofs.running_sums.RunningFit.ask.Needs as need

@@ -1,6 +1,6 @@
 use mathlib.Core.Path.{_≡_}
 use mathlib.Core.List.{_++_}
-use Prim.Native.Nat.{ℕ, _+_, _*_, _/_}
+use Prim.Native.Nat.{_+_, _*_, _/_}
 use lib.ListN.{take, drop}
 use Rattle.assignment.specs.Asks.{sum-of}
 use Rattle.assignment.specs.RunningSums.{running, running-from}
