@@ -5,10 +5,10 @@ use mathlib.Core.Logic.{⊎-elim}
 use Prim.Native.Nat.{ℕ, zero, suc, _+_, _-_, _*_, _/_, _<_, _≤_}
 use native.Mathlib.Nat.{mul-le-mul-right, mul-add, add-mul, zero-add, add-zero, add-assoc, mul-div-cancel, mul-zero, zero-div}
 use native.Mathlib.Omega.{arith}
-use lib.ListN.{length, getD, drop}
+use lib.ListN.{length, getD}
 use Rattle.std.proofs.shelf.Bits.{div-add-mod', mod-below, div-below, le-div}
 use Rattle.std.proofs.shelf.Tests.{cases-lt}
-use Rattle.assignment.proofs.ListSteps.{sum-drop-more}
+use Rattle.assignment.proofs.ListSteps.{getD-le-sum}
 use Rattle.assignment.specs.Asks.{sum-of, Sound, Fit}
 use Rattle.assignment.specs.RunningSums.{running, running-from}
 
@@ -97,22 +97,14 @@ running-fits total block positions sound = ⊎-elim some (λ z. empty (omega ari
 
 -- what a turn of the loop needs, at the seller i
 pub record Turn (total all before o : ℕ) : Type 0 where
-  pub positive : 0 < all
-  pub small : before + o ≤ 2000000000
   pub grown : total * before / all ≤ total * (before + o) / all
   pub most : total * (before + o) / all - total * before / all ≤ o
 
-pub turn : (total block : ℕ) (positions : List ℕ) (all before i : ℕ) → Sound total block positions → all ≡ sum-of positions → before + sum-of (drop i positions) ≡ sum-of positions → i < length positions → Turn total all before (getD positions i 0)
-turn total block positions all before i sound e inv h =
+pub turn : (total block : ℕ) (positions : List ℕ) (all before i : ℕ) → Sound total block positions → all ≡ sum-of positions → i < length positions → Turn total all before (getD positions i 0)
+turn total block positions all before i sound e h =
     let o = getD positions i 0 in
-    let d = sum-drop-more positions i h in
-    let one = sound .opens .each-open i h in
-    let pos : 0 < all = omega arith in
-    let near-o = seller total all pos (omega (arith, sound .covered)) before o in
-    let n : before + o ≤ 2000000000 = omega (arith, sound .opens .capped) in
+    let pos : 0 < all = omega (arith, getD-le-sum positions i h, sound .opens .each-open i h) in
     record {
-      positive = pos;
-      small = n;
       grown = rw (mul-add total before o) (grows (total * before) (total * o) all pos);
-      most = near-o .most;
+      most = seller total all pos (omega (arith, sound .covered)) before o .most;
     }

@@ -7,8 +7,8 @@ use native.Mathlib.Omega.{arith}
 use lib.ListN.{take, drop, getD}
 use Rattle.std.proofs.shelf.Lists.{at-drop-more, at-drop-all}
 use Rattle.assignment.specs.RunningSums.{running-from}
-use Rattle.assignment.proofs.ListSteps.{sum-drop-more, written-more, written-all}
-use Rattle.assignment.proofs.RunningDuties.{turn}
+use Rattle.assignment.proofs.ListSteps.{getD-le-sum, sum-drop-more, written-more, written-all}
+use Rattle.assignment.proofs.RunningDuties.{Turn, turn}
 use Rattle.assignment.proofs.running_sums.RunningFit.ask.Needs as need
 
 pub loop-i-holds : need.loop-i-holds
@@ -20,28 +20,24 @@ loop-i-holds c =
     )
 
 pub add-before : need.add-before
-add-before c =
-    let ok = c .in-Some .ensures tt in
-    let t = turn (c .args .total) (c .args .block) (c .args .open .now) (c .in-Some .sum) (c .loop-i .before) (c .loop-i .i) (ok .0 .sound) (ok .1) (c .loop-i .inv .0) (c .loop-i-test .taken) in
-    omega (arith, t .small)
+add-before c = omega (arith, sum-drop-more (c .args .open .now) (c .loop-i .i) (c .loop-i-test .taken), (c .in-Some .ensures tt) .0 .sound .opens .capped)
 
 pub due-to-due-requires : need.due-to-due-requires
 due-to-due-requires c κs =
     let ok = c .in-Some .ensures tt in
-    let t = turn (c .args .total) (c .args .block) (c .args .open .now) (c .in-Some .sum) (c .loop-i .before) (c .loop-i .i) (ok .0 .sound) (ok .1) (c .loop-i .inv .0) (c .loop-i-test .taken) in
-    t .positive
+    omega (arith, getD-le-sum (c .args .open .now) (c .loop-i .i) (c .loop-i-test .taken), ok .0 .sound .opens .each-open (c .loop-i .i) (c .loop-i-test .taken), ok .1)
+
+-- what a turn pays, from what was due before it
+turn-of : (c : need.After-due-to-due) → Turn (c .args .total) (c .in-Some .sum) (c .loop-i .before) (getD (c .args .open .now) (c .loop-i .i) 0)
+turn-of c =
+    let ok = c .in-Some .ensures tt in
+    turn (c .args .total) (c .args .block) (c .args .open .now) (c .in-Some .sum) (c .loop-i .before) (c .loop-i .i) (ok .0 .sound) (ok .1) (c .loop-i-test .taken)
 
 pub sub-answer : need.sub-answer
-sub-answer c =
-    let ok = c .in-Some .ensures tt in
-    let t = turn (c .args .total) (c .args .block) (c .args .open .now) (c .in-Some .sum) (c .loop-i .before) (c .loop-i .i) (ok .0 .sound) (ok .1) (c .loop-i .inv .0) (c .loop-i-test .taken) in
-    omega (arith, t .grown, c .loop-i .inv .1, c .due-to-due .ensures)
+sub-answer c = omega (arith, turn-of c .grown, c .loop-i .inv .1, c .due-to-due .ensures)
 
 pub cast-answer : need.cast-answer
-cast-answer c =
-    let ok = c .in-Some .ensures tt in
-    let t = turn (c .args .total) (c .args .block) (c .args .open .now) (c .in-Some .sum) (c .loop-i .before) (c .loop-i .i) (ok .0 .sound) (ok .1) (c .loop-i .inv .0) (c .loop-i-test .taken) in
-    omega (arith, t .most, t .small, c .loop-i .inv .1, c .due-to-due .ensures)
+cast-answer c = omega (arith, turn-of c .most, c .typed .open (c .loop-i .i), c .loop-i .inv .1, c .due-to-due .ensures)
 
 pub loop-i-again : need.loop-i-again
 loop-i-again c =
