@@ -3,6 +3,7 @@ ghost use mathlib.Core.Path.{_≡_};
 ghost use Rattle.std.specs.Options.{Cases as BySome};
 ghost use Rattle.assignment.specs.Asks.{Opens, SoundAsk, sum-of};
 
+// The limits of a sound ask: how many sellers, the sum of their positions, and the block.
 pub const MOST_SELLERS: usize = 256;
 
 const MOST_OPEN: u32 = 2_000_000_000;
