@@ -8,12 +8,12 @@ use Rattle.std.specs.declared.alloc.Global.{Global}
 use Rattle.std.specs.declared.result.Result.{Result}
 use Rattle.std.specs.declared.result.Result.the-variants.{Ok, Err}
 use Rattle.std.specs.declared.vec.Vec.{Vec}
+use Rattle.refusals.specs.Numbers.{number-of}
 use Rattle.refusals.specs.declared.Refusal.{Refusal}
-use Rattle.refusals.specs.declared.Refusal.the-variants.{UnsoundAsk}
 use Rattle.assignment.specs.Asks.{Fit, SoundAsk}
 
--- A sound ask has the rule's amounts, and they fit; any other is refused as unsound.
+-- A sound ask has the rule's amounts, and they fit; any other is refused with number 15.
 abbrev pub Assigned : Result (Vec ℕ Global) Refusal → ℕ → ℕ → List ℕ → List ℕ → Type 0
 Assigned (Ok amounts) total block positions meant =
     SoundAsk total block positions (length positions) × (vec-items amounts ≡ meant) × Fit total block positions (vec-items amounts)
-Assigned (Err refusal) total block positions meant = (SoundAsk total block positions (length positions) → ⊥) × (refusal ≡ UnsoundAsk)
+Assigned (Err refusal) total block positions meant = (SoundAsk total block positions (length positions) → ⊥) × (number-of refusal ≡ 15)

@@ -1,7 +1,7 @@
 -- The turns of the loops of rule 2.
 use mathlib.Core.Bool.{Bool, true, false}
 use mathlib.Core.List.{List, _∷_, _++_, map}
-use mathlib.Core.Path.{_≡_, refl, sym, ap, subst, _∙_}
+use mathlib.Core.Path.{_≡_, refl, sym, ap, _∙_}
 use Prim.Native.Nat.{ℕ, _+_, _-_, _<_, _≤_}
 use native.Mathlib.Omega.{arith}
 use lib.ListN.{length, getD, take, drop, replicate, set}
@@ -10,11 +10,11 @@ use Rattle.std.proofs.shelf.Tests.{cond-true, le-leb}
 use Rattle.std.specs.Options.{mapped}
 use Rattle.std.specs.declared.option.Option.the-variants.{Some, None}
 use Rattle.assignment.specs.BlockLaws.{Waits}
-use Rattle.assignment.specs.BlockShares.{State, all-rounds, by-remainder, floor-share, floors, give, granted, last-part, last-pass, round, rounds, state, strongest-from}
-use Rattle.assignment.specs.BlockSteps.{Standing, Terms-of, all-granted}
+use Rattle.assignment.specs.BlockShares.{all-rounds, by-remainder, floor-share, floors, give, granted, last-part, last-pass, round, rounds, state, strongest-from}
+use Rattle.assignment.specs.BlockSteps.{Standing, all-granted}
 use Rattle.assignment.specs.declared.block_shares.Claim.{Claim}
 use Rattle.assignment.specs.declared.block_shares.Terms.{Terms}
-use Rattle.assignment.proofs.BlockDuties.{floors-going, granted-at, granted-long, granted-more, granted-none, rounds-keep, standing-more}
+use Rattle.assignment.proofs.BlockDuties.{granted-at, granted-long, granted-more, granted-none, standing-more}
 use Rattle.assignment.proofs.BlockOrder.{by-remainder-proper}
 use Rattle.assignment.proofs.BlockRounds.{rounds-done, rounds-next, settled-less, settled-none}
 use Rattle.assignment.proofs.ListSteps.{at-drop-two, rest-at, rest-more, written-more}
@@ -83,17 +83,9 @@ pub start-written : (t : Terms) (os : List ℕ) (held : List Bool) (answer : Lis
 start-written t os held answer e f = f ∙ sym (granted-none t os) ∙ ap (all-granted t os) (sym e)
 
 -- what the rounds leave, from a start that is the floors
-pub record Rounded (t : Terms) (os : List ℕ) (left : ℕ) (held : List Bool) : Type 0 where
-  pub is : _≡_ {A = State} (state left held) (all-rounds by-remainder t os)
-  pub standing : Standing t os held
-
-pub rounded : (t : Terms) (os : List ℕ) (left₀ : ℕ) (held₀ : List Bool) (left : ℕ) (held : List Bool) → Terms-of t os → left₀ ≡ floors t os .left → held₀ ≡ replicate (length os) false → left ≡ rounds by-remainder t os (length os) (state left₀ held₀) .left → held ≡ rounds by-remainder t os (length os) (state left₀ held₀) .held → Rounded t os left held
-rounded t os left₀ held₀ left held terms left₀-is held₀-is left-is held-is = record { is = is; standing = subst (λ (st : State). Standing t os (st .held)) (sym is) (rounds-keep by-remainder by-remainder-proper t os (length os) (floors t os) (floors-going t os terms) .standing) }
+pub rounded : (t : Terms) (os : List ℕ) (left₀ : ℕ) (held₀ : List Bool) (left : ℕ) (held : List Bool) → left₀ ≡ floors t os .left → held₀ ≡ replicate (length os) false → left ≡ rounds by-remainder t os (length os) (state left₀ held₀) .left → held ≡ rounds by-remainder t os (length os) (state left₀ held₀) .held → state left held ≡ all-rounds by-remainder t os
+rounded t os left₀ held₀ left held left₀-is held₀-is left-is held-is =
+    same _ _ _ _ left-is held-is ∙ ap (rounds by-remainder t os (length os)) (same _ _ _ _ left₀-is held₀-is)
   where
-    pair : (a b : ℕ) (xs ys : List Bool) → a ≡ b → xs ≡ ys → _≡_ {A = State} (state a xs) (state b ys)
-    pair a b xs ys p q = cc
-
-    is : _≡_ {A = State} (state left held) (all-rounds by-remainder t os)
-    is =
-        pair _ _ _ _ left-is held-is
-        ∙ ap (rounds by-remainder t os (length os)) (pair _ _ _ _ left₀-is held₀-is)
+    same : (a b : ℕ) (xs ys : List Bool) → a ≡ b → xs ≡ ys → state a xs ≡ state b ys
+    same a b xs ys p q = cc

@@ -30,10 +30,11 @@ abbrev pub Holds : Case → Type 0
 Holds c =
     (before : List ℕ) → Answered-with (SoundAsk (c .total) (c .block) (c .positions) (length (c .positions))) (chosen (c .rule) (c .total) (c .block) (c .positions)) before (c .amounts)
 
--- A case by each rule.
+-- A case by rule 1.
 abbrev pub by-running : ℕ → ℕ → List ℕ → Option (List ℕ) → Case
 by-running total block positions amounts = record { rule = Running (record {}); total = total; block = block; positions = positions; amounts = amounts }
 
+-- A case by rule 2.
 abbrev pub by-blocks : ℕ → ℕ → List ℕ → Option (List ℕ) → Case
 by-blocks total block positions amounts = record { rule = Blocks (record {}); total = total; block = block; positions = positions; amounts = amounts }
 

@@ -115,6 +115,7 @@ impl Terms {
         requires written { ⌜ now answer ≡ all-granted self (now «open») (now held) ⌝ }
         ensures left { λ r. ⌜ r ≡ rounds by-remainder self (now («open» .entry)) (length (now («open» .entry))) (state left (now (held .entry))) .left ⌝ }
         ensures held { λ _. ⌜ now (held .exit) ≡ rounds by-remainder self (now («open» .entry)) (length (now («open» .entry))) (state left (now (held .entry))) .held ⌝ }
+        ensures standing { λ _. ⌜ Standing self (now («open» .entry)) (now (held .exit)) ⌝ }
         ensures written { λ _. ⌜ now (answer .exit) ≡ all-granted self (now («open» .entry)) (now (held .exit)) ⌝ }
     {
         while left >= self.block {

@@ -24,16 +24,6 @@ give-blocks-rest-requires c κs =
       written = start-written t os _ _ none (c .write-floors-after-floors .ensures .written);
     }
 
-pub give-rest-requires : need.give-rest-requires
-give-rest-requires c κs =
-    let ok = c .in-Some .ensures tt in
-    let t = terms (c .args .total) (c .args .block) (c .in-Some .all) in
-    let os = c .args .open .now in
-    let none = nobody-holds (c .nobody-places .result) (length os) (c .nobody-places .ensures) (ok .0 .sound .few) in
-    let e = c .give-blocks-rest .ensures in
-    let r = rounded t os _ _ _ _ (record { sound = ok .0 .sound; all-is = ok .1 }) (c .write-floors-after-floors .ensures .left) none (e .left) (e .held) in
-    record { standing = r .standing; written = e .written }
-
 pub returns : need.returns
 returns c =
     let ok = c .in-Some .ensures tt in
@@ -41,9 +31,9 @@ returns c =
     let os = c .args .open .now in
     let none = nobody-holds (c .nobody-places .result) (length os) (c .nobody-places .ensures) (ok .0 .sound .few) in
     let e = c .give-blocks-rest .ensures in
-    let r = rounded t os _ _ _ _ (record { sound = ok .0 .sound; all-is = ok .1 }) (c .write-floors-after-floors .ensures .left) none (e .left) (e .held) in
+    let rounds = rounded t os _ _ _ _ (c .write-floors-after-floors .ensures .left) none (e .left) (e .held) in
     let is = c .give-rest .ensures
-    ∙ ap (λ (st : State). last-pass t (st .left) os (st .held)) (r .is)
+    ∙ ap (λ (st : State). last-pass t (st .left) os (st .held)) rounds
     ∙ ap (λ sum. blocks-of by-remainder (terms (c .args .total) (c .args .block) sum) os) (ok .1) in
     record {
       answered = (ok .0, is);

@@ -28,10 +28,10 @@ pub returns-after-loop-left : need.returns-after-loop-left
 returns-after-loop-left c =
     let inv = c .loop-left .inv in
     let e = sym (rounds-short (c .args .self) (c .args .open .now) (c .loop-left .held) (c .loop-left .left) (inv .0 .long) (c .loop-left-test .left)) ∙ inv .2 in
-    record { left = ap (λ (st : State). st .left) e; held = ap (λ (st : State). st .held) e; written = inv .1 }
+    record { left = ap (λ (st : State). st .left) e; held = ap (λ (st : State). st .held) e; standing = inv .0; written = inv .1 }
 
 pub returns-in-rest : need.returns-in-rest
 returns-in-rest c =
     let inv = c .loop-left .inv in
     let e = sym (rounds-unclaimed (c .args .self) (c .args .open .now) (c .loop-left .held) (c .loop-left .left) (inv .0 .long) (c .in-rest .ensures tt .value)) ∙ inv .2 in
-    record { left = ap (λ (st : State). st .left) e; held = ap (λ (st : State). st .held) e; written = inv .1 }
+    record { left = ap (λ (st : State). st .left) e; held = ap (λ (st : State). st .held) e; standing = inv .0; written = inv .1 }
