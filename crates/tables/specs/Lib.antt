@@ -1,0 +1,4 @@
+pub mod Orders
+pub mod Finding
+pub mod Entering
+pub mod Changes
