@@ -1,0 +1,4 @@
+pub mod LastPrices
+pub mod Ranks
+mod SoundRows
+mod MarkPlaces

@@ -1,0 +1,4 @@
+pub mod Rows
+pub mod Quotes
+pub mod Values
+pub mod WorkedValues
