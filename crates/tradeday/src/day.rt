@@ -41,7 +41,7 @@ fn trade(swaption: u16, buyer: u16, seller: u16, amount: i64, moment: u32) -> Ca
     })
 }
 
-pub fn calls() -> [Call<()>; 29] {
+pub(crate) fn calls() -> [Call<()>; 29] {
     [
         list(7, 1),
         list(8, 3),
