@@ -1,8 +1,11 @@
 pub mod Parts
-pub mod Holdings
+pub mod Enterings
+pub mod Ascents
+pub mod Figures
+pub mod RecordedLists
+pub mod RecordedTrades
 pub mod JudgedLists
+pub mod Netted
 pub mod JudgedTrades
-pub mod JudgedInstructions
-pub mod JudgedScreenings
 pub mod Promises
 pub mod CallByCall

@@ -1,8 +1,8 @@
 -- The rows that count, after a write among all rows.
-use Rattle.std.proofs.Common.{◌≡◌, ℕ, zero, suc, ◌+◌, ◌-◌, ◌<◌, ◌≤◌, true, ltb, leb, List, [], ◌∷◌, ◌++◌, map, length, take, drop, set, refl, ap, ◌∙◌, append-nil, arith, take_all}
+use Rattle.std.proofs.Common.{◌≡◌, ℕ, zero, suc, ◌+◌, ◌-◌, ◌<◌, ◌≤◌, true, ltb, leb, List, [], ◌∷◌, ◌++◌, length, take, set, refl, ap, ◌∙◌, arith}
 use borrow.Rule.Slice.PartMut.{mid_of}
 use Rattle.std.proofs.lemmas.List.Edits.{length-insert}
-use Rattle.std.proofs.lemmas.List.{drop_all, length-map, length-take-le, take_at, take-take}
+use Rattle.std.proofs.lemmas.List.{length-take-le, take_at, take-take}
 use Rattle.std.proofs.lemmas.Bool.{and_from, cond_true, le-leb, lt-ltb}
 use Rattle.std.specs.List.{insert}
 use Rattle.tables.specs.Changes.{moved_up, moved_up_twice, two_fit}
@@ -16,17 +16,6 @@ take_written zero rows i x = refl
 take_written (suc n) [] i x = refl
 take_written (suc n) (y ∷ rows) zero x = refl
 take_written (suc n) (y ∷ rows) (suc i) x = ap (λ ys. y ∷ ys) (take_written n rows i x)
-
--- all rows mapped, once a loop has come to their end
-pub all_mapped : {X : Type 0} (f : X → X) (rows : List X) (i : ℕ) → length rows ≤ i → map f (take i rows) ++ drop i rows ≡ map f rows
-all_mapped f rows i le = ap (λ xs. map f xs ++ drop i rows) (take_all i rows le) ∙ ap (λ xs. map f rows ++ xs) (drop_all i rows le) ∙ append-nil (map f rows)
-
--- the first n rows mapped, where the part `&mut rows[0..n]` was changed
-pub map_in_part : {X : Type 0} (f : X → X) (rows : List X) (n : ℕ) (new rest : List X) → n ≤ length rows → new ≡ map f (mid_of 0 (n - 0) rows) → take n (new ++ rest) ≡ map f (take n rows)
-map_in_part f rows n new rest le e =
-    let is : new ≡ map f (take n rows) = e ∙ ap (map f) (part_is n rows) in
-    let size : length new ≡ n = ap length is ∙ length-map (take n rows) f ∙ length-take-le n rows le in
-    take_at new rest n size ∙ is
 
 -- a row put in among the first n, where the part `&mut rows[0..n + 1]` was changed
 pub put_in_part : {X : Type 0} (rows : List X) (n at : ℕ) (x : X) (new rest : List X) → n < length rows → at ≤ n → new ≡ moved_up (mid_of 0 (n + 1 - 0) rows) at x → take (n + 1) (new ++ rest) ≡ insert (take n rows) at x

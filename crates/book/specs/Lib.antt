@@ -1,3 +1,7 @@
+pub mod Rows
 pub mod Held
+pub mod Places
+pub mod Records
+pub mod Calls
 pub mod Judging
 pub mod Promise

@@ -1,31 +1,38 @@
 -- What is promised of every call and of every list of calls, in the tally's words.
-use Rattle.std.specs.Prelude.{◌≡◌, ◌≤◌, Bool, true, false, cond, List, [], ◌∷◌, Some, None, Option}
+use Rattle.std.specs.Prelude.{◌≡◌, ℕ, ◌≤◌, Bool, true, false, cond, List, [], ◌∷◌, Some, None, Option}
 use Rattle.std.specs.List.{AllByRecursion as All}
 use Rattle.tally.specs.History.{History, bound_amount}
+use Rattle.tally.specs.Keys.{same_key}
 use Rattle.tally.specs.Table.{Answer}
 use Rattle.tally.specs.Tally.{World, after, answer}
 use Rattle.tally.specs.declared.calls.Call.{Call}
 use Rattle.tally.specs.declared.calls.Call.TheVariants.{List as ListCall, Trade, Propose, Preliminary, Withdraw, Notice, Failure, Assign}
 use Rattle.tally.specs.declared.keys.PositionKey.{PositionKey}
-use Rattle.book.specs.Held.{positions_in, swaptions_in}
-use Rattle.rows.specs.Records.{Recorded}
-use Rattle.rows.specs.Rows.{bound_at, bound_of}
+use Rattle.book.specs.Held.{positions_in}
+use Rattle.book.specs.Records.{Recorded}
+use Rattle.book.specs.Rows.{bound_of}
 use Rattle.book.specs.declared.books.Book.{Book}
+use Rattle.book.specs.declared.positions.Position.{Position}
 
 -- A book records a history of accepted calls.
 abbrev pub Records : History → Book → Type 0
-Records t book = Recorded t (swaptions_in book.swaptions) (positions_in book.positions) book.latest
+Records t book = Recorded t book.swaptions book.positions book.latest
 
--- The calls that a book runs so far: all but assign.
+-- The calls that a book runs so far: list and trade.
 abbrev pub runs : {R : Type 0} → Call R → Bool
 runs (ListCall _) = true
 runs (Trade _) = true
-runs (Propose _) = true
-runs (Preliminary _) = true
-runs (Withdraw _) = true
-runs (Notice _) = true
-runs (Failure _) = true
+runs (Propose _) = false
+runs (Preliminary _) = false
+runs (Withdraw _) = false
+runs (Notice _) = false
+runs (Failure _) = false
 runs (Assign _) = false
+
+-- The positions' bound amount for a key, nothing if there is no such position.
+abbrev pub bound_at : PositionKey → List Position → ℕ
+bound_at k [] = 0
+bound_at k (p ∷ rows) = cond (same_key p.key k) (bound_of p) (bound_at k rows)
 
 module _ {R : Type 0} (w : World R) where
   -- What is said to a call: the tally's answer, or nothing as long as the call does not run.

@@ -1,8 +1,7 @@
 // The book: its swaptions, its positions, and the latest moment.
 ghost use Rattle.std.specs.Prelude.{◌≤◌};
-ghost use Rattle.book.specs.Held.{positions_in, swaptions_in};
-ghost use Rattle.rows.specs.Records.{Led};
-ghost use Rattle.rows.specs.Rows.{AllFair};
+ghost use Rattle.book.specs.Records.{Led};
+ghost use Rattle.book.specs.Rows.{AllFair};
 
 use crate::position_tables::PositionTable;
 use crate::swaption_tables::SwaptionTable;
@@ -17,5 +16,5 @@ pub struct Book {
     // No stance amount and no assignment is above its open position.
     ghost fair: { AllFair positions.rows positions.count },
     // Some history of accepted calls led here.
-    ghost led: { Led (swaptions_in swaptions) (positions_in positions) latest },
+    ghost led: { Led swaptions positions latest },
 }

@@ -1,15 +1,17 @@
 // The expiry book: swaptions and positions in key order, and the calls on it.
 mod books;
-mod instructions;
+mod judgements;
 mod lists;
 mod places;
 mod position_tables;
+mod positions;
 mod readers;
 mod runs;
-mod screenings;
 mod swaption_tables;
+mod swaptions;
 mod trades;
 
 pub use books::Book;
-pub use rows::{Position, Swaption};
+pub use positions::Position;
 pub use runs::{Outcome, run};
+pub use swaptions::Swaption;

@@ -1,13 +1,13 @@
 // The call that lists a swaption.
 ghost use Rattle.std.specs.Prelude.{◌≡◌, false, is_ok};
 ghost use Rattle.tally.specs.Listings.{terms_of};
-ghost use Rattle.rows.specs.Calls.{if_accepted, list_says, with_stated};
+ghost use Rattle.book.specs.Calls.{if_accepted, list_says, with_stated};
 ghost use Rattle.book.specs.Held.{swaptions_in};
 
 use crate::books::Book;
-use judgements::judge_list;
+use crate::judgements::judge_list;
+use crate::swaptions::Swaption;
 use refusals::Refusal;
-use rows::Swaption;
 use tally::listings::Listing;
 
 impl Book {

@@ -1,19 +1,17 @@
 // The positions of a book, in the order of their keys.
-ghost use Rattle.std.specs.Prelude.{◌≡◌, ◌+◌, ◌<◌, ◌≤◌, true, false, map, length, slice_index_or, slice_set, unsigned_abs};
+ghost use Rattle.std.specs.Prelude.{◌≡◌, ◌+◌, ◌<◌, ◌≤◌, true, false, length, slice_set, unsigned_abs};
 ghost use Rattle.std.specs.List.{insert, AllByRecursion as All};
 ghost use Rattle.tables.specs.Finding.{Ascending, Found};
 ghost use Rattle.tally.specs.Deals.{buyer_of, seller_of, sound_deal};
 ghost use Rattle.tally.specs.Keys.{before, same_key};
 ghost use Rattle.book.specs.Held.{positions_in};
-ghost use Rattle.rows.specs.Places.{Fits, Ordered, missing_at, placed, row_or_fresh};
-ghost use Rattle.rows.specs.Rows.{moved, screened, traded_positions, with_row, with_stance};
-ghost use Rattle.rows.specs.declared.positions.Position.{Position as Row};
+ghost use Rattle.book.specs.Places.{Fits, Ordered, missing_at, placed, row_or_fresh};
+ghost use Rattle.book.specs.Rows.{traded_positions, with_row};
 
-use rows::{Position, Screen};
+use crate::positions::Position;
 use tables::{find, insert_at, insert_two};
 use tally::deals::Deal;
 use tally::keys::PositionKey;
-use tally::stances::Stance;
 
 #[derive(Drop)]
 pub(crate) struct PositionTable {
@@ -69,35 +67,6 @@ impl PositionTable {
         ensures count { self.new.count ≡ self.old.count }
     {
         self.rows[at] = row;
-    }
-
-    // The position at a place.
-    pub(crate) fn row(&self, at: usize) -> Position
-        requires within { at < self.now.count }
-        requires few { self.now.count ≤ 256 }
-        ensures { (d : Row) → result ≡ slice_index_or (positions_in self.now) at d }
-    {
-        self.rows[at]
-    }
-
-    // Gives the position at a place another stance.
-    pub(crate) fn restance(&mut self, at: usize, stance: Stance)
-        requires within { at < self.old.count }
-        requires few { self.old.count ≤ 256 }
-        ensures rows { (d : Row) → positions_in self.new ≡ slice_set (positions_in self.old) at (with_stance stance (slice_index_or (positions_in self.old) at d)) }
-        ensures count { self.new.count ≡ self.old.count }
-    {
-        let row = self.row(at).with_stance(stance);
-        self.write(at, row);
-    }
-
-    // Lets a propose or a failure change whoever is in the money, and nobody else.
-    pub(crate) fn screen(&mut self, screen: &Screen)
-        requires { self.old.count ≤ 256 }
-        ensures rows { positions_in self.new ≡ map (screened screen.now) (positions_in self.old) }
-        ensures count { self.new.count ≡ self.old.count }
-    {
-        screen_all(&mut self.rows[0..self.count], screen);
     }
 
     // The row at a place, or a fresh one if it is missing.
@@ -206,18 +175,13 @@ impl PositionTable {
         ensures rows { positions_in self.new ≡ traded_positions deal.now (positions_in self.old) }
         ensures count { self.new.count ≡ self.old.count + missing_at buyer + missing_at seller }
     {
-        let bought = moved(&self.row_or_fresh(buyer, deal.buyer_key()), deal.amount);
-        let sold = moved(&self.row_or_fresh(seller, deal.seller_key()), -deal.amount);
+        let bought = self
+            .row_or_fresh(buyer, deal.buyer_key())
+            .moved(deal.amount);
+        let sold = self
+            .row_or_fresh(seller, deal.seller_key())
+            .moved(-deal.amount);
         self.enter_both(buyer, bought, seller, sold);
-    }
-}
-
-// Each of the positions after a propose or a failure.
-fn screen_all(rows: &mut [Position], screen: &Screen)
-    ensures { rows.new ≡ map (screened screen.now) rows.old }
-{
-    for i in 0..rows.len() {
-        rows[i] = screen.screened(&rows[i]);
     }
 }
 
@@ -228,19 +192,5 @@ pub(crate) fn missing_at(place: &Result<usize, usize>) -> usize
     match place {
         Ok(_) => 0,
         Err(_) => 1,
-    }
-}
-
-// A position with its net changed.
-fn moved(row: &Position, change: i64) -> Position
-    requires net { unsigned_abs row.now.net ≤ 2000000000 }
-    requires change { unsigned_abs change ≤ 2000000000 }
-    ensures { result ≡ moved change row.now }
-{
-    Position {
-        key: row.key,
-        net: row.net + change,
-        stance: row.stance,
-        assignment: row.assignment,
     }
 }

@@ -5,8 +5,9 @@ ghost use Rattle.book.specs.Promise.{Records};
 
 use crate::books::Book;
 use crate::position_tables::PositionTable;
+use crate::positions::Position;
 use crate::swaption_tables::SwaptionTable;
-use rows::{Position, Swaption};
+use crate::swaptions::Swaption;
 
 impl Book {
     // A book without swaptions and positions.

@@ -3,10 +3,10 @@ ghost use Rattle.std.specs.Prelude.{◌≡◌, ◌+◌, ◌<◌, ◌≤◌, leng
 ghost use Rattle.std.specs.List.{insert};
 ghost use Rattle.tables.specs.Finding.{Found};
 ghost use Rattle.book.specs.Held.{swaptions_in};
-ghost use Rattle.rows.specs.Rows.{with_volume};
-ghost use Rattle.rows.specs.declared.swaptions.Swaption.{Swaption as Row};
+ghost use Rattle.book.specs.Rows.{with_volume};
+ghost use Rattle.book.specs.declared.swaptions.Swaption.{Swaption as Row};
 
-use rows::Swaption;
+use crate::swaptions::Swaption;
 use tables::{find, insert_at};
 
 #[derive(Drop)]
@@ -82,21 +82,7 @@ impl SwaptionTable {
         ensures rows { (d : Row) → swaptions_in self.new ≡ slice_set (swaptions_in self.old) at (with_volume amount (slice_index_or (swaptions_in self.old) at d)) }
         ensures count { self.new.count ≡ self.old.count }
     {
-        let row = with_volume(&self.row(at), amount);
+        let row = self.row(at).with_volume(amount);
         self.write(at, row);
-    }
-}
-
-// A swaption with an amount more traded in it.
-fn with_volume(row: &Swaption, amount: u64) -> Swaption
-    requires { row.now.traded + amount ≤ 2000000000 }
-    ensures { result ≡ with_volume amount row.now }
-{
-    Swaption {
-        terms: row.terms,
-        traded: row.traded + amount,
-        proposed: row.proposed,
-        failed: row.failed,
-        assigned: row.assigned,
     }
 }

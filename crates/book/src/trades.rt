@@ -1,14 +1,14 @@
 // The call that trades.
 ghost use Rattle.std.specs.Prelude.{◌≡◌, true, false, length, is_ok};
-ghost use Rattle.rows.specs.Calls.{if_accepted, trade_says};
+ghost use Rattle.book.specs.Calls.{if_accepted, trade_says};
 ghost use Rattle.book.specs.Held.{positions_in, swaptions_in};
 ghost use Rattle.book.specs.Judging.{Judged};
-ghost use Rattle.rows.specs.Rows.{traded_positions, traded_swaptions};
+ghost use Rattle.book.specs.Rows.{traded_positions, traded_swaptions};
 
 use crate::books::Book;
+use crate::judgements::judge_trade;
 use crate::places::TradePlaces;
 use crate::position_tables::missing_at;
-use judgements::judge_trade;
 use refusals::Refusal;
 use tally::deals::Deal;
 

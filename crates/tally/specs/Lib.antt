@@ -3,8 +3,6 @@ pub mod Listings
 pub mod Deals
 pub mod Calls
 pub mod History
-pub mod Stances
 pub mod Table
 pub mod Tally
-pub mod MarkedCases
 pub mod Orders

@@ -1,21 +1,16 @@
 -- The table of refusals: what each call is answered, row by row from the top, by a few plain figures.
 use Rattle.std.specs.Prelude.{ℕ, ◌+◌, ◌%◌, max, Bool, true, cond, ◌&&◌, ◌||◌, ℤ, pos, Some, None, Ok, Err, Option, Result, ◌==◌, int_le, int_lt, nat_le, nat_lt, unsigned_abs}
 use Rattle.refusals.specs.declared.Refusal.{Refusal}
-use Rattle.refusals.specs.declared.Refusal.TheVariants.{InvalidTerms, AlreadyListed, NotListed, MomentPassed, OutsideWindow, AlreadyDone, NotEntitled, NotABuyer, InvalidAmount, NoPrice, TradedTooMuch, BookFull}
+use Rattle.refusals.specs.declared.Refusal.TheVariants.{InvalidTerms, AlreadyListed, NotListed, MomentPassed, OutsideWindow, AlreadyDone, NotEntitled, NotABuyer, InvalidAmount, NotARaise, NotStanding, NoPrice, TradedTooMuch, BookFull}
 use Rattle.tally.specs.Calls.{entitled}
 use Rattle.tally.specs.Deals.{sound_deal}
 use Rattle.tally.specs.Listings.{sound_terms}
-use Rattle.tally.specs.Stances.{next_stance}
+use Rattle.tally.specs.declared.calls.ExerciseNotice.{ExerciseNotice}
+use Rattle.tally.specs.declared.calls.Withdrawal.{Withdrawal}
 use Rattle.tally.specs.declared.deals.Deal.{Deal}
-use Rattle.tally.specs.declared.instructions.Instruction.{Instruction}
-use Rattle.tally.specs.declared.instructions.Word.{Word}
-use Rattle.tally.specs.declared.instructions.Word.TheVariants.{Preliminary as PreliminaryWord, Withdraw as WithdrawWord, Notice as NoticeWord}
 use Rattle.tally.specs.declared.listings.Terms.{Terms}
-use Rattle.tally.specs.declared.screenings.Screening.{Screening}
-use Rattle.tally.specs.declared.screenings.Screening.TheVariants.{Propose, Failure}
 use Rattle.tally.specs.declared.stances.Stance.{Stance}
-use Rattle.tally.specs.declared.stances.StanceEvent.{StanceEvent}
-use Rattle.tally.specs.declared.stances.StanceEvent.TheVariants.{Preliminary, Withdraw, Notice, Exercise}
+use Rattle.tally.specs.declared.stances.Stance.TheVariants.{Silent, Standing, Noticed, Whole}
 
 -- An acceptance, or one refusal.
 abbrev pub Answer : Type 0
@@ -26,11 +21,11 @@ abbrev pub accepted : Answer
 accepted = Ok tt
 
 -- A row of the table: the refusal if the test holds, else the rows below.
-abbrev pub refuse_if : {X : Type 0} → Bool → Refusal → Result X Refusal → Result X Refusal
+abbrev pub refuse_if : Bool → Refusal → Answer → Answer
 refuse_if test refusal below = cond test (Err refusal) below
 
 -- A row of the table: the refusal unless the test holds.
-abbrev pub refuse_unless : {X : Type 0} → Bool → Refusal → Result X Refusal → Result X Refusal
+abbrev pub refuse_unless : Bool → Refusal → Answer → Answer
 refuse_unless test refusal below = cond test below (Err refusal)
 
 -- The row for a swaption that is not listed, and the rows below by its terms.
@@ -70,30 +65,14 @@ trade_answer deal listed latest traded missing count =
     refuse_unless (sound_deal deal) InvalidTerms
     (if_listed listed (λ terms. trade_rows deal terms latest traded missing count))
 
--- Whether a moment is in the window of a propose, which is from cease and before start, or of a failure, which is from
--- start on.
-abbrev pub screening_window : Screening → Terms → ℕ → Bool
-screening_window Propose terms moment = within terms.cease terms.start moment
-screening_window Failure terms moment = nat_le terms.start moment
-
--- Propose and failure, below the row for a swaption that is not listed and above the rows that are given.
-abbrev pub screening_rows : Screening → Terms → (moment latest : ℕ) → Bool → Answer → Answer
-screening_rows s terms moment latest done below =
+-- Propose: by the terms, its moment and the latest, whether a propose or a preliminary notice was accepted in the
+-- swaption, and the price that the marks answer.
+abbrev pub propose_answer : Option Terms → (moment latest : ℕ) → Bool → Option ℕ → Answer
+propose_answer listed moment latest done price =
+    if_listed listed (λ terms.
     refuse_if (nat_lt moment latest) MomentPassed
-    (refuse_unless (screening_window s terms moment) OutsideWindow
-    (refuse_if done AlreadyDone below))
-
--- Propose and failure: by the terms, its moment and the latest, whether a call was accepted in the swaption that leaves
--- no other (a propose or a preliminary notice for a propose, a failure or an assign for a failure), and the price that
--- the source answers.
-abbrev pub screening_answer : Screening → Option Terms → (moment latest : ℕ) → Bool → Option ℕ → Answer
-screening_answer s listed moment latest done price =
-    if_listed listed (λ terms. screening_rows s terms moment latest done (if_priced price))
-
--- What is done to a buyer in the money, by its open position: a propose makes it standing with all of it, a failure whole.
-abbrev pub screening_event : Screening → ℕ → StanceEvent
-screening_event Propose size = Preliminary size
-screening_event Failure size = Exercise
+    (refuse_unless (within terms.cease terms.start moment) OutsideWindow
+    (refuse_if done AlreadyDone (if_priced price))))
 
 -- Whether an amount may be exercised of a net: it is not below 0 nor above the net, and it is the net itself or a
 -- multiple of the exercise block, where a block of 0 counts as 1.
@@ -101,45 +80,58 @@ abbrev pub valid_amount : ℤ → ℤ → ℕ → Bool
 valid_amount amount net block =
     int_le (pos 0) amount && int_le amount net && (int_le net amount || unsigned_abs amount % max 1 block == 0)
 
--- Whether a moment is in the window of a word: a preliminary notice from cease and before start, a withdraw from cease
--- and before cut-off, a notice from start and before cut-off.
-abbrev pub in_window : Word → Terms → ℕ → Bool
-in_window (PreliminaryWord _) terms moment = within terms.cease terms.start moment
-in_window WithdrawWord terms moment = within terms.cease terms.cutoff moment
-in_window (NoticeWord _) terms moment = within terms.start terms.cutoff moment
-
--- Whether the amount of a word may be exercised of a net; a withdraw has none.
-abbrev pub valid_word : Word → ℤ → ℕ → Bool
-valid_word (PreliminaryWord amount) net block = valid_amount amount net block
-valid_word WithdrawWord net block = true
-valid_word (NoticeWord amount) net block = valid_amount amount net block
-
--- What a word does to the stance of its position.
-abbrev pub event_of : Word → StanceEvent
-event_of (PreliminaryWord amount) = Preliminary (unsigned_abs amount)
-event_of WithdrawWord = Withdraw
-event_of (NoticeWord amount) = Notice (unsigned_abs amount)
-
--- Preliminary, withdraw and notice, below the row for a swaption that is not listed: the next stance of the position, or
--- the number. The net and the stance are those of the position that it names; a missing one has a net of 0.
-abbrev pub instruction_rows : Instruction → Terms → (latest : ℕ) → (net : ℤ) → Stance → Result Stance Refusal
-instruction_rows i terms latest net stance =
-    refuse_if (nat_lt i.moment latest) MomentPassed
-    (refuse_unless (in_window i.word terms i.moment) OutsideWindow
-    (refuse_unless (entitled i.submitter i.position) NotEntitled
+-- Preliminary: by the terms, the latest moment, and the net of the position that it names, 0 if that is missing.
+abbrev pub preliminary_answer : ExerciseNotice → Option Terms → (latest : ℕ) → (net : ℤ) → Answer
+preliminary_answer notice listed latest net =
+    if_listed listed (λ terms.
+    refuse_if (nat_lt notice.moment latest) MomentPassed
+    (refuse_unless (within terms.cease terms.start notice.moment) OutsideWindow
+    (refuse_unless (entitled notice.submitter notice.position) NotEntitled
     (refuse_unless (int_lt (pos 0) net) NotABuyer
-    (refuse_unless (valid_word i.word net terms.blocks.exercise) InvalidAmount
-    (next_stance stance (event_of i.word) (unsigned_abs net))))))
+    (refuse_unless (valid_amount notice.amount net terms.blocks.exercise) InvalidAmount accepted)))))
 
--- The answer that comes with a next stance or a number.
-abbrev pub answer_with : Result Stance Refusal → Answer
-answer_with (Ok stance) = accepted
-answer_with (Err refusal) = Err refusal
+-- The row for a withdraw of what does not stand.
+abbrev pub if_standing : Stance → Answer
+if_standing (Standing amount) = accepted
+if_standing Silent = Err NotStanding
+if_standing (Noticed amount) = Err NotStanding
+if_standing Whole = Err NotStanding
 
--- Preliminary, withdraw and notice: by the terms, the latest moment, and the net and the stance of the position.
-abbrev pub instruction_answer : Instruction → Option Terms → (latest : ℕ) → (net : ℤ) → Stance → Answer
-instruction_answer i listed latest net stance =
-    if_listed listed (λ terms. answer_with (instruction_rows i terms latest net stance))
+-- Withdraw: by the terms, the latest moment, and the net and the stance of the position that it names.
+abbrev pub withdraw_answer : Withdrawal → Option Terms → (latest : ℕ) → (net : ℤ) → Stance → Answer
+withdraw_answer withdrawal listed latest net stance =
+    if_listed listed (λ terms.
+    refuse_if (nat_lt withdrawal.moment latest) MomentPassed
+    (refuse_unless (within terms.cease terms.cutoff withdrawal.moment) OutsideWindow
+    (refuse_unless (entitled withdrawal.submitter withdrawal.position) NotEntitled
+    (refuse_unless (int_lt (pos 0) net) NotABuyer (if_standing stance)))))
+
+-- Whether an amount is a raise for a stance: whoever is noticed or whole may only go above the bound amount.
+abbrev pub raises : Stance → ℕ → ℕ → Bool
+raises Silent size amount = true
+raises (Standing _) size amount = true
+raises (Noticed bound) size amount = nat_lt bound amount
+raises Whole size amount = nat_lt size amount
+
+-- Notice: by the terms, the latest moment, and the net and the stance of the position that it names.
+abbrev pub notice_answer : ExerciseNotice → Option Terms → (latest : ℕ) → (net : ℤ) → Stance → Answer
+notice_answer notice listed latest net stance =
+    if_listed listed (λ terms.
+    refuse_if (nat_lt notice.moment latest) MomentPassed
+    (refuse_unless (within terms.start terms.cutoff notice.moment) OutsideWindow
+    (refuse_unless (entitled notice.submitter notice.position) NotEntitled
+    (refuse_unless (int_lt (pos 0) net) NotABuyer
+    (refuse_unless (valid_amount notice.amount net terms.blocks.exercise) InvalidAmount
+    (refuse_unless (raises stance (unsigned_abs net) (unsigned_abs notice.amount)) NotARaise accepted))))))
+
+-- Failure: by the terms, its moment and the latest, whether a failure or an assign was accepted in the swaption, and
+-- the price that the named source answers.
+abbrev pub failure_answer : Option Terms → (moment latest : ℕ) → Bool → Option ℕ → Answer
+failure_answer listed moment latest done price =
+    if_listed listed (λ terms.
+    refuse_if (nat_lt moment latest) MomentPassed
+    (refuse_unless (nat_le terms.start moment) OutsideWindow
+    (refuse_if done AlreadyDone (if_priced price))))
 
 -- Assign: by the terms, its moment and the latest, and whether an assign was accepted in the swaption.
 abbrev pub assign_answer : Option Terms → (moment latest : ℕ) → Bool → Answer

@@ -1,12 +1,12 @@
 -- The tally: it keeps the calls that it accepts, and answers each call by the table from what it keeps.
 use Rattle.std.specs.Prelude.{◌≡◌, ℕ, ◌+◌, Bool, true, false, cond, ◌||◌, List, [], ◌∷◌, length, is_some, Some, None, Ok, Err, Option}
 use Rattle.std.specs.Option.{option_map}
-use Rattle.tally.specs.Calls.{as_notice, as_preliminary, as_withdrawal, named_by}
+use Rattle.tally.specs.Calls.{noticed_position, withdrawn_position}
 use Rattle.tally.specs.Deals.{buyer_of, seller_of}
 use Rattle.tally.specs.History.{Meaning, Entry, History, listed, traded, proposed, preliminary, withdrawn, noticed, failed, assigned, latest_moment, listed_terms, terms_with, terms_in, traded_in, position_keys, net_of, stance_of, preliminaries_in, failed_in, assigned_in}
 use Rattle.tally.specs.Keys.{same_key}
 use Rattle.tally.specs.Listings.{terms_of}
-use Rattle.tally.specs.Table.{Answer, accepted, assign_answer, instruction_answer, list_answer, screening_answer, trade_answer}
+use Rattle.tally.specs.Table.{Answer, accepted, list_answer, trade_answer, propose_answer, preliminary_answer, withdraw_answer, notice_answer, failure_answer, assign_answer}
 use Rattle.tally.specs.declared.calls.Call.{Call}
 use Rattle.tally.specs.declared.calls.Call.TheVariants.{List as ListCall, Trade, Propose, Preliminary, Withdraw, Notice, Failure, Assign}
 use Rattle.tally.specs.declared.calls.ExerciseNotice.{ExerciseNotice}
@@ -16,10 +16,8 @@ use Rattle.tally.specs.declared.calls.SourceName.TheVariants.{Marks, Tape}
 use Rattle.tally.specs.declared.calls.SystemFailure.{SystemFailure}
 use Rattle.tally.specs.declared.calls.Withdrawal.{Withdrawal}
 use Rattle.tally.specs.declared.deals.Deal.{Deal}
-use Rattle.tally.specs.declared.instructions.Instruction.{Instruction}
 use Rattle.tally.specs.declared.keys.PositionKey.{PositionKey}
 use Rattle.tally.specs.declared.listings.Terms.{Terms}
-use Rattle.tally.specs.declared.screenings.Screening.TheVariants.{Propose as ProposeKind, Failure as FailureKind}
 
 -- What a price source answers, by an index and a moment.
 abbrev pub Quotes : Type 0
@@ -30,10 +28,6 @@ pub record World (R : Type 0) : Type 0 where
   pub marks : Quotes
   pub tape : Quotes
   pub means : R → Meaning
-
--- The world of two sources and of what rules mean.
-abbrev pub world : {R : Type 0} → Quotes → Quotes → (R → Meaning) → World R
-world marks tape means = record { marks = marks; tape = tape; means = means }
 
 -- Whether a key is among keys.
 abbrev pub is_among : PositionKey → List PositionKey → Bool
@@ -69,29 +63,26 @@ answer_to_trade t deal = trade_among (listed_terms t) (position_keys t) (latest_
 
 -- The answer to a propose after a history, by what the marks answer.
 abbrev pub answer_to_propose : History → Proposal → Option ℕ → Answer
-answer_to_propose t p price = screening_answer ProposeKind (terms_in t p.swaption) p.moment (latest_moment t) (preliminaries_in t p.swaption) price
-
--- The answer to an instruction after a history.
-abbrev pub answer_to_instruction : History → Instruction → Answer
-answer_to_instruction t i =
-    instruction_answer i (terms_in t i.swaption) (latest_moment t) (net_of t (named_by i)) (stance_of t (named_by i))
+answer_to_propose t p price = propose_answer (terms_in t p.swaption) p.moment (latest_moment t) (preliminaries_in t p.swaption) price
 
 -- The answer to a preliminary notice after a history.
 abbrev pub answer_to_preliminary : History → ExerciseNotice → Answer
-answer_to_preliminary t n = answer_to_instruction t (as_preliminary n)
+answer_to_preliminary t n = preliminary_answer n (terms_in t n.swaption) (latest_moment t) (net_of t (noticed_position n))
 
 -- The answer to a withdraw after a history.
 abbrev pub answer_to_withdraw : History → Withdrawal → Answer
-answer_to_withdraw t w = answer_to_instruction t (as_withdrawal w)
+answer_to_withdraw t w =
+    withdraw_answer w (terms_in t w.swaption) (latest_moment t) (net_of t (withdrawn_position w)) (stance_of t (withdrawn_position w))
 
 -- The answer to a notice after a history.
 abbrev pub answer_to_notice : History → ExerciseNotice → Answer
-answer_to_notice t n = answer_to_instruction t (as_notice n)
+answer_to_notice t n =
+    notice_answer n (terms_in t n.swaption) (latest_moment t) (net_of t (noticed_position n)) (stance_of t (noticed_position n))
 
 -- The answer to a failure after a history, by what the named source answers.
 abbrev pub answer_to_failure : History → SystemFailure → Option ℕ → Answer
 answer_to_failure t f price =
-    screening_answer FailureKind (terms_in t f.swaption) f.moment (latest_moment t) (failed_in t f.swaption || assigned_in t f.swaption) price
+    failure_answer (terms_in t f.swaption) f.moment (latest_moment t) (failed_in t f.swaption || assigned_in t f.swaption) price
 
 -- The answer to an assign after a history.
 abbrev pub answer_to_assign : History → (swaption moment : ℕ) → Answer
@@ -102,14 +93,10 @@ abbrev pub quoted_by : Quotes → Option Terms → ℕ → Option ℕ
 quoted_by quotes None moment = None
 quoted_by quotes (Some terms) moment = quotes terms.index moment
 
--- The source of a name, of the marks and the tape.
-abbrev pub by_name : SourceName → Quotes → Quotes → Quotes
-by_name Marks marks tape = marks
-by_name Tape marks tape = tape
-
 -- The source of a name.
 abbrev pub source_of : {R : Type 0} → World R → SourceName → Quotes
-source_of w name = by_name name w.marks w.tape
+source_of w Marks = w.marks
+source_of w Tape = w.tape
 
 -- A history with what an accepted call enters; a refused call leaves it alone.
 abbrev pub kept_if : Answer → Option Entry → History → History

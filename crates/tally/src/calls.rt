@@ -1,9 +1,5 @@
 // The eight calls, each with all that it hands over.
-ghost use Rattle.std.specs.Prelude.{◌≡◌};
-ghost use Rattle.tally.specs.Calls.{as_notice, as_preliminary, as_withdrawal, entitled};
-
 use crate::deals::Deal;
-use crate::instructions::{Instruction, Word};
 use crate::keys::Party;
 use crate::listings::Listing;
 
@@ -12,15 +8,6 @@ use crate::listings::Listing;
 pub struct Submitter {
     pub participant: u16,
     pub client: u16,
-}
-
-impl Submitter {
-    // Whether the submitter may speak for a party's position.
-    pub fn speaks_for(&self, position: &Party) -> bool
-        ensures { result ≡ entitled self.now position.now }
-    {
-        self.participant == position.participant && self.client == position.client
-    }
 }
 
 // That buyers in the money stand with their whole positions.
@@ -40,34 +27,6 @@ pub struct ExerciseNotice {
     pub moment: u32,
 }
 
-impl ExerciseNotice {
-    // What it says if it is a preliminary notice.
-    pub fn as_preliminary(&self) -> Instruction
-        ensures { result ≡ as_preliminary self.now }
-    {
-        Instruction {
-            swaption: self.swaption,
-            position: self.position,
-            submitter: self.submitter,
-            word: Word::Preliminary(self.amount),
-            moment: self.moment,
-        }
-    }
-
-    // What it says if it is a final notice.
-    pub fn as_notice(&self) -> Instruction
-        ensures { result ≡ as_notice self.now }
-    {
-        Instruction {
-            swaption: self.swaption,
-            position: self.position,
-            submitter: self.submitter,
-            word: Word::Notice(self.amount),
-            moment: self.moment,
-        }
-    }
-}
-
 // That a preliminary notice is taken back.
 #[derive(Clone, Copy)]
 pub struct Withdrawal {
@@ -75,21 +34,6 @@ pub struct Withdrawal {
     pub position: Party,
     pub submitter: Submitter,
     pub moment: u32,
-}
-
-impl Withdrawal {
-    // What it says.
-    pub fn as_instruction(&self) -> Instruction
-        ensures { result ≡ as_withdrawal self.now }
-    {
-        Instruction {
-            swaption: self.swaption,
-            position: self.position,
-            submitter: self.submitter,
-            word: Word::Withdraw,
-            moment: self.moment,
-        }
-    }
 }
 
 // The price source that a failure names.

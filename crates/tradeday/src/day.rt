@@ -1,7 +1,5 @@
 // The calls of the day.
-use tally::calls::{
-    Call, ExerciseNotice, Proposal, SourceName, Submitter, SystemFailure, Withdrawal,
-};
+use tally::calls::Call;
 use tally::deals::Deal;
 use tally::keys::Party;
 use tally::listings::{Blocks, Listing};
@@ -42,51 +40,7 @@ fn trade(swaption: u16, buyer: u16, seller: u16, amount: i64, moment: u32) -> Ca
     })
 }
 
-// From a participant's house account.
-fn spoken_by(participant: u16) -> Submitter {
-    Submitter {
-        participant,
-        client: 0,
-    }
-}
-
-// A notice of a position in swaption 7.
-fn exercise(holder: u16, submitter: u16, amount: i64, moment: u32) -> ExerciseNotice {
-    ExerciseNotice {
-        swaption: 7,
-        position: house(holder),
-        submitter: spoken_by(submitter),
-        amount,
-        moment,
-    }
-}
-
-fn withdraw(holder: u16, moment: u32) -> Call<()> {
-    Call::Withdraw(Withdrawal {
-        swaption: 7,
-        position: house(holder),
-        submitter: spoken_by(holder),
-        moment,
-    })
-}
-
-fn propose(moment: u32) -> Call<()> {
-    Call::Propose(Proposal {
-        swaption: 7,
-        moment,
-    })
-}
-
-fn failure(moment: u32) -> Call<()> {
-    Call::Failure(SystemFailure {
-        swaption: 7,
-        source: SourceName::Tape,
-        moment,
-    })
-}
-
-// Lists and trades.
-pub(crate) fn trading() -> [Call<()>; 29] {
+pub(crate) fn calls() -> [Call<()>; 29] {
     [
         list(7, 1),
         list(8, 3),
@@ -117,31 +71,5 @@ pub(crate) fn trading() -> [Call<()>; 29] {
         list(1, 1),
         list(17, 2),
         list(18, 1),
-    ]
-}
-
-// Notices and failures, given to a book of its own after a list and two trades.
-pub(crate) fn expiring() -> [Call<()>; 20] {
-    [
-        list(7, 1),
-        trade(7, 1, 2, 100, 10),
-        trade(7, 3, 2, 40, 20),
-        propose(150),
-        Call::Preliminary(exercise(1, 1, 30, 150)),
-        propose(150),
-        Call::Notice(exercise(1, 1, 45, 199)),
-        Call::Notice(exercise(1, 1, 45, 200)),
-        Call::Notice(exercise(1, 1, 45, 200)),
-        Call::Notice(exercise(1, 1, 101, 200)),
-        Call::Notice(exercise(1, 3, 50, 200)),
-        Call::Notice(exercise(2, 2, 50, 200)),
-        withdraw(1, 210),
-        withdraw(3, 210),
-        withdraw(3, 210),
-        failure(220),
-        failure(250),
-        failure(260),
-        Call::Notice(exercise(1, 1, 100, 270)),
-        Call::Notice(exercise(3, 3, 40, 300)),
     ]
 }

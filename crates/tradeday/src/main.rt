@@ -1,12 +1,9 @@
-// A day of lists and trades, and one of notices and failures: each call with its
-// answer, then the positions.
+// A short day of lists and trades: each call with its answer, then the
+// positions.
 mod day;
 
-use anyhow::anyhow;
-use book::{Position, run};
-use prices::{Mark, Marks, Tape, TapeRow};
+use book::{Outcome, Position, run};
 use refusals::Refusal;
-use std::alloc::Global;
 use tally::calls::Call;
 
 // What was answered: 0 if the call was accepted, else the refusal's number.
@@ -24,24 +21,7 @@ fn print_call(rt: &HostRuntime, place: usize, call: &Call<()>, answer: u32) -> a
             "{place}: trade {} of {} at {}: {answer}",
             deal.amount, deal.swaption, deal.moment,
         )?,
-        Call::Propose(proposal) => println!(rt;
-            "{place}: propose at {}: {answer}",
-            proposal.moment
-        )?,
-        Call::Preliminary(notice) => println!(rt;
-            "{place}: preliminary {} by {} at {}: {answer}",
-            notice.amount, notice.submitter.participant, notice.moment,
-        )?,
-        Call::Withdraw(withdrawal) => println!(rt;
-            "{place}: withdraw by {} at {}: {answer}",
-            withdrawal.submitter.participant, withdrawal.moment,
-        )?,
-        Call::Notice(notice) => println!(rt;
-            "{place}: notice {} by {} at {}: {answer}",
-            notice.amount, notice.submitter.participant, notice.moment,
-        )?,
-        Call::Failure(failure) => println!(rt; "{place}: failure at {}: {answer}", failure.moment)?,
-        Call::Assign(_) => println!(rt; "{place}: not yet available")?,
+        _ => println!(rt; "{place}: not yet available")?,
     }
     Ok(())
 }
@@ -61,13 +41,8 @@ fn print_position(rt: &HostRuntime, position: &Position) -> anyhow::Result<()> {
     Ok(())
 }
 
-fn print_day(
-    rt: &HostRuntime,
-    calls: &[Call<()>],
-    marks: &Marks,
-    tape: &Tape,
-) -> anyhow::Result<()> {
-    let outcome = run(rt.alloc(), calls, marks, tape)?;
+fn print_day(rt: &HostRuntime, calls: &[Call<()>]) -> anyhow::Result<()> {
+    let outcome = run(rt.alloc(), calls)?;
     for (i, call) in calls.iter().enumerate() {
         if let Some(Some(answer)) = outcome.answers.get(i) {
             print_call(rt, i + 1, call, number_of(answer))?;
@@ -79,40 +54,6 @@ fn print_day(
     Ok(())
 }
 
-// Marks of index 3 at 96,500.
-fn marks_of_the_day(heap: Global) -> anyhow::Result<Marks> {
-    let mark = Mark {
-        index: 3,
-        price: 96_500,
-    };
-    match Marks::from_rows(Vec::from_slice(heap, &[mark])?) {
-        Ok(marks) => Ok(marks),
-        Err(_) => Err(anyhow!("unsound marks")),
-    }
-}
-
-// A tape on which index 3 is at 96,000 from moment 250 on.
-fn tape_of_the_day(heap: Global) -> anyhow::Result<Tape> {
-    let row = TapeRow {
-        index: 3,
-        moment: 250,
-        price: 96_000,
-    };
-    match Tape::from_rows(Vec::from_slice(heap, &[row])?) {
-        Ok(tape) => Ok(tape),
-        Err(_) => Err(anyhow!("unsound tape")),
-    }
-}
-
-fn print_days(rt: &HostRuntime) -> anyhow::Result<()> {
-    let marks = marks_of_the_day(rt.alloc())?;
-    let tape = tape_of_the_day(rt.alloc())?;
-    println!(rt; "trading")?;
-    print_day(rt, &day::trading(), &marks, &tape)?;
-    println!(rt; "expiring")?;
-    print_day(rt, &day::expiring(), &marks, &tape)
-}
-
 fn main(rt: HostRuntime) -> anyhow::Result<()> {
-    print_days(&rt)
+    print_day(&rt, &day::calls())
 }

@@ -2,15 +2,15 @@ use Rattle.std.proofs.Common.{◌≡◌, ℕ, ltb, ◌∷◌, Some, sym, refl, a
 use mathlib.Core.Logic.{∥∥₁_map}
 use Rattle.std.specs.List.{insert}
 use Rattle.tables.specs.Finding.{Found}
-use Rattle.laws.proofs.Acceptances.{accepted_list}
+use Rattle.tally.proofs.Acceptances.{accepted_list}
 use Rattle.tally.specs.History.{listed}
 use Rattle.tally.specs.Table.{accepted, list_answer}
 use Rattle.book.proofs.JudgedLists.{book_judges_list, book_puts_in_place}
-use Rattle.laws.proofs.RecordedLists.{list_recorded}
+use Rattle.book.proofs.RecordedLists.{list_recorded}
 use Rattle.book.proofs.books.Book.list.Goals as goal
-use Rattle.rows.specs.Calls.{list_says, with_stated}
-use Rattle.book.specs.Held.{positions_in, swaptions_in}
-use Rattle.rows.specs.Rows.{with_swaption}
+use Rattle.book.specs.Calls.{list_says, with_stated}
+use Rattle.book.specs.Held.{swaptions_in}
+use Rattle.book.specs.Rows.{with_swaption}
 
 pub returns-in-Err : goal.returns-in-Err
 returns-in-Err c =
@@ -45,7 +45,7 @@ invariant-of-self c =
         (
           book.fair,
           (
-            ∥∥₁_map book.led (λ x. (listed terms ∷ x.0, list_recorded x.0 (swaptions_in book.swaptions) (swaptions_in c.insert.new.self) (positions_in book.positions) book.latest terms x.1 says is)),
+            ∥∥₁_map book.led (λ x. (listed terms ∷ x.0, list_recorded x.0 book.swaptions c.insert.new.self book.positions book.latest terms x.1 says is)),
             tt,
           ),
         ),

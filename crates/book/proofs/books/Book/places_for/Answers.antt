@@ -4,7 +4,7 @@ use Rattle.tally.specs.Deals.{sound_deal}
 use Rattle.tally.specs.Keys.{before}
 use Rattle.tally.specs.Table.{trade_rows}
 use Rattle.book.specs.Held.{positions_in, swaptions_in}
-use Rattle.rows.specs.Places.{missing_at}
+use Rattle.book.specs.Places.{missing_at}
 use Rattle.book.proofs.JudgedTrades.{book_judges_trade, book_misses_swaption}
 use Rattle.book.proofs.books.Book.places_for.Goals as goal
 

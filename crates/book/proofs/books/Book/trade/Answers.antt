@@ -1,9 +1,8 @@
 use Rattle.std.proofs.Common.{◌≡◌, ℕ, get_or, set, nat_abs, sym, refl, ap, ◌∙◌, arith, w64, SFits, rules}
 use Rattle.std.proofs.lemmas.Int.{to_z-of_z}
 use Rattle.book.specs.Held.{swaptions_in}
-use Rattle.rows.specs.Rows.{blank_swaption, traded_swaptions, with_volume}
-use Rattle.book.proofs.Holdings.{positions_capped, positions_long, positions_up}
-use Rattle.book.proofs.JudgedTrades.{fair_by_trade, led_by_trade, swaption_within, swaptions_traded, trade_room, trade_sound, volume_capped}
+use Rattle.book.specs.Rows.{blank_swaption, traded_swaptions, with_volume}
+use Rattle.book.proofs.JudgedTrades.{fair_by_trade, led_by_trade, positions_capped, positions_long, positions_up, swaption_within, swaptions_traded, trade_room, trade_sound, volume_capped}
 use Rattle.book.proofs.books.Book.trade.Goals as goal
 
 pub add-volume-requires : goal.add-volume-requires
@@ -28,13 +27,13 @@ net-requires c =
     let j = c.in-Ok.ensures.judged in
     let size = c.in-Ok.ensures.size refl in
     record {
-      ascending = positions_up book;
+      ascending = positions_up book deal;
       few = book.few_positions;
-      long = positions_long book size;
+      long = positions_long book deal size;
       buyer_found = j.buyer_found;
       seller_found = j.seller_found;
       sound = trade_sound book deal places j size;
-      capped = positions_capped book;
+      capped = positions_capped book deal;
       room = trade_room book deal places j size;
     }
 

@@ -1,8 +1,8 @@
 use Rattle.std.proofs.Common.{◌≡◌, true, false, ◌∙◌, subst, arith, rules}
 use Rattle.tally.specs.Keys.{before}
 use Rattle.book.specs.Held.{positions_in}
-use Rattle.rows.specs.Places.{Fits}
-use Rattle.laws.proofs.Enterings.{found_fits, found_ordered, other_before, placed_in_order, with_rows_either_order}
+use Rattle.book.specs.Places.{Fits}
+use Rattle.book.proofs.Enterings.{found_fits, found_ordered, other_before, placed_in_order, with_rows_either_order}
 use Rattle.book.proofs.position_tables.PositionTable.enter_both.Goals as goal
 
 pub enter-in-order-requires : goal.enter-in-order-requires

@@ -4,11 +4,11 @@ use Rattle.tables.specs.Finding.{Found}
 use Rattle.tally.specs.Deals.{buyer_of, seller_of}
 use Rattle.tally.specs.Keys.{before, same_key}
 use Rattle.book.specs.Held.{positions_in}
-use Rattle.rows.specs.Places.{Fits, row_or_fresh}
-use Rattle.rows.specs.Rows.{moved, with_row}
-use Rattle.laws.proofs.Enterings.{found_fits}
-use Rattle.laws.proofs.Netted.{both_netted, row_capped, row_named, sound_size}
-use Rattle.laws.proofs.RecordedTrades.{sides_differ}
+use Rattle.book.specs.Places.{Fits, row_or_fresh}
+use Rattle.book.specs.Rows.{moved, with_row}
+use Rattle.book.proofs.Enterings.{found_fits}
+use Rattle.book.proofs.Netted.{both_netted, row_capped, row_named, sound_size}
+use Rattle.book.proofs.RecordedTrades.{sides_differ}
 use Rattle.book.proofs.position_tables.PositionTable.net.Goals as goal
 
 pub row-or-fresh-requires : goal.row-or-fresh-requires

@@ -1,8 +1,8 @@
 use Rattle.std.proofs.Common.{◌<◌, ◌≤◌, length, sym, ap, ◌∙◌, subst, arith, rules}
 use Rattle.std.proofs.lemmas.List.{get_or_default, get_or-take}
 use Rattle.book.specs.Held.{positions_in}
-use Rattle.rows.specs.Places.{Fits, row_or_fresh}
-use Rattle.rows.specs.Rows.{fresh}
+use Rattle.book.specs.Places.{Fits, row_or_fresh}
+use Rattle.book.specs.Rows.{fresh}
 use Rattle.book.proofs.position_tables.PositionTable.row_or_fresh.Goals as goal
 
 pub returns-in-Ok : goal.returns-in-Ok

@@ -1,0 +1,7 @@
+pub mod Acceptances
+pub mod ListedTerms
+pub mod Quiet
+pub mod Unlisted
+pub mod Nets
+pub mod Ascents
+pub mod Bounds
