@@ -31,7 +31,7 @@ blocks-of-fit book-judges-it book-judges-list book-judges-trade book-misses-it b
 book-puts-in-place book-takes-it both-netted bought-named bound-among bound-amount bound-by-figures
 bound-no-lower bound-of-stranger bound-recorded bound-rises-with-trade bound-stepped bounds-rise buyer-found
 buyer-in-the-money buyer-of buyers-in by-figures by-j by-k by-price by-remainder by-remainder-proper
-by-running by-test changed-in claim-at claim-of claim-waits cond-true cut-after cut-after-drop distance-of
+by-running by-test changed-in claim-at claim-of claim-waits cut-after cut-after-drop distance-of
 distance-shown div-lower div-upper divisor-pos due-of each-open ends-in-return entered-before entered-between
 entered-commute entered-either-order entered-found entered-missing entered-past entry-by equal-not-less
 event-of exercise-taken failed-flag failed-in failure-above-price failure-answer failure-elsewhere

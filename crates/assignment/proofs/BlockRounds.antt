@@ -1,7 +1,7 @@
 -- The rounds of rule 2 settle: as many as there are sellers give all blocks that can be given.
 use Rattle.std.proofs.Common.{◌≡◌, ℕ, zero, suc, ◌+◌, ◌<◌, ◌≤◌, Bool, true, false, cond, leb, ◌⊎◌, List, [], ◌∷◌, length, get_or, set, Some, None, Option, sym, refl, ap, ◌∙◌, subst, inl, inr, ⊎_elim, arith}
 use Rattle.std.proofs.lemmas.List.{length-set}
-use Rattle.std.proofs.lemmas.Bool.{and_from, cases_Bool, cond-false, cond_true, le-leb, leb-false, lt-leb, not_from_false}
+use Rattle.std.proofs.lemmas.Bool.{and_from, cases_Bool, cond-false, cond-true, le-leb, leb-false, lt-leb, not_from_false}
 use Rattle.assignment.specs.BlockLaws.{Proper, Waits}
 use Rattle.assignment.specs.BlockShares.{Order, State, give, round, rounds, state, waits}
 use Rattle.assignment.specs.declared.block_shares.Terms.{Terms}
@@ -29,7 +29,7 @@ waiting_le t (o ∷ os) [] = omega arith
 waiting_le t (o ∷ os) (has ∷ held) = let rest = waiting_le t os held in omega (arith, one_at_most t o has)
 
 waits_one : (t : Terms) (os : List ℕ) (held : List Bool) (i : ℕ) → Waits t os held i → one_waits t (get_or os i 0) (get_or held i false) ≡ 1
-waits_one t os held i w = cond_true _ _ _ (and_from _ _ (not_from_false _ w.without) (le-leb _ _ w.room))
+waits_one t os held i w = cond-true _ _ _ (and_from _ _ (not_from_false _ w.without) (le-leb _ _ w.room))
 
 waiting_at : (t : Terms) (os : List ℕ) (held : List Bool) (i : ℕ) → length held ≡ length os → i < length os → one_waits t (get_or os i 0) (get_or held i false) ≤ waiting t os held
 unfolding waiting
@@ -63,7 +63,7 @@ module _ (next : Order) (proper : Proper next) where
   unfolding Settled
   stays t os st long (inl less) = cond-false _ _ st (lt-leb _ _ less)
   stays t os st long (inr none) = ⊎_elim
-      (λ (e : leb t.block st.left ≡ true). cond_true _ _ st e ∙ given (next t os st.held) refl)
+      (λ (e : leb t.block st.left ≡ true). cond-true _ _ st e ∙ given (next t os st.held) refl)
       (λ (e : leb t.block st.left ≡ false). cond-false _ _ st e)
       (cases_Bool (leb t.block st.left))
     where
@@ -98,7 +98,7 @@ module _ (next : Order) (proper : Proper next) where
       given e None none = inr (settled_none t os st.held st.left long none)
       given e (Some i) f =
           let w = proper.picks t os st.held i long f in
-          let is : round next t os st ≡ give t st (Some i) = cond_true _ _ st e ∙ ap (give t st) f in
+          let is : round next t os st ≡ give t st (Some i) = cond-true _ _ st e ∙ ap (give t st) f in
           inl (omega (arith, ap (λ (s : State). waiting t os s.held) is, waiting_set t os st.held i long w.seller, waits_one t os st.held i w))
 
   settle : (t : Terms) (os : List ℕ) (n : ℕ) (st : State) → length st.held ≡ length os → waiting t os st.held ≤ n → Settled t os (rounds next t os n st)

@@ -1,7 +1,7 @@
 -- The turns of the loops of rule 2.
 use Rattle.std.proofs.Common.{◌≡◌, ℕ, ◌+◌, ◌-◌, ◌<◌, ◌≤◌, Bool, true, false, List, ◌∷◌, ◌++◌, map, length, get_or, take, drop, set, replicate, Some, None, sym, refl, ap, ◌∙◌, arith}
 use Rattle.std.proofs.lemmas.List.{take-replicate}
-use Rattle.std.proofs.lemmas.Bool.{cond_true, le-leb}
+use Rattle.std.proofs.lemmas.Bool.{cond-true, le-leb}
 use Rattle.std.specs.Option.{option_map}
 use Rattle.assignment.specs.BlockLaws.{Waits}
 use Rattle.assignment.specs.BlockShares.{all_rounds, by_remainder, floor_share, floors, give, granted, last_part, last_pass, round, rounds, state, strongest_from}
@@ -57,7 +57,7 @@ block_given t os held answer i standing written w =
 pub rounds_given : (t : Terms) (os : List ℕ) (held : List Bool) (left : ℕ) (next : Claim) → length held ≡ length os → Some next ≡ strongest_from t 0 None os held → t.block ≤ left → rounds by_remainder t os (length os) (state (left - t.block) (set held next.seller true)) ≡ rounds by_remainder t os (length os) (state left held)
 rounds_given t os held left next long is enough =
     let first : round by_remainder t os (state left held) ≡ (state (left - t.block) (set held next.seller true)) =
-    cond_true _ _ _ (le-leb t.block left enough) ∙ ap (give t (state left held)) (sym (ap (option_map (λ (c : Claim). c.seller)) is)) in
+    cond-true _ _ _ (le-leb t.block left enough) ∙ ap (give t (state left held)) (sym (ap (option_map (λ (c : Claim). c.seller)) is)) in
     ap (rounds by_remainder t os (length os)) (sym first) ∙ rounds_next by_remainder by_remainder_proper t os (state left held) long
 
 -- the end, where too little is left or nobody waits

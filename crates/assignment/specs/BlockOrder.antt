@@ -1,7 +1,7 @@
 -- Rule 2's order picks the first of those with the largest remainder.
 use Rattle.std.specs.Prelude.{◌≡◌, ℕ, zero, suc, ◌+◌, ◌<◌, ◌≤◌, Bool, true, false, cond, List, [], ◌∷◌, length, IfSome as found, Some, None, Option, ◌≢◌, slice_index, slice_index_or, refl}
 use Rattle.std.proofs.Common.{⊎_elim, sym, ap, subst, ◌∙◌, add-zero, arith}
-use Rattle.std.proofs.lemmas.Bool.{and_from, and_parts, cases_lt, cond-false, cond_true, le-leb, le-ltb, leb-true, lt-ltb, not_from_false, not-true}
+use Rattle.std.proofs.lemmas.Bool.{and_from, and_parts, cases_lt, cond-false, cond-true, le-leb, le-ltb, leb-true, lt-ltb, not_from_false, not-true}
 use Rattle.std.specs.Option.{option_map}
 use Rattle.assignment.specs.BlockLaws.{Proper, Waits}
 use Rattle.assignment.specs.BlockShares.{by_remainder, claim_of, remainder_of, stronger, strongest_from, waits}
@@ -27,7 +27,7 @@ stronger_is None (Some c) = record { high = omega arith; most = omega arith; kep
 stronger_is (Some b) (Some c) =
     ⊎_elim
     (λ (lt : b.remainder < c.remainder).
-    rw (cond_true _ (Some c) (Some b) (lt-ltb b.remainder c.remainder lt)) (record { high = omega arith; most = omega arith; kept = λ le. absurd (omega arith); new = λ _. refl }))
+    rw (cond-true _ (Some c) (Some b) (lt-ltb b.remainder c.remainder lt)) (record { high = omega arith; most = omega arith; kept = λ le. absurd (omega arith); new = λ _. refl }))
     (λ (le : c.remainder ≤ b.remainder).
     rw (cond-false _ (Some c) (Some b) (le-ltb b.remainder c.remainder le)) (record { high = omega arith; most = omega arith; kept = λ _. refl; new = λ lt. absurd (omega arith) }))
     (cases_lt b.remainder c.remainder)
@@ -90,7 +90,7 @@ top_of t i best (o ∷ os) (has ∷ held) long =
 -- ---- claims and waiting
 waits_claim : (t : Terms) (os : List ℕ) (held : List Bool) (i k : ℕ) → Waits t os held k → claim_at t i os held k ≡ Some (record { seller = i + k; remainder = remainder_of t (slice_index os k) })
 waits_claim t os held i k w =
-    cond_true _ _ _ (and_from _ _ (not_from_false _ w.without) (le-leb _ _ w.room))
+    cond-true _ _ _ (and_from _ _ (not_from_false _ w.without) (le-leb _ _ w.room))
 
 claim_waits : (t : Terms) (os : List ℕ) (held : List Bool) (i k : ℕ) → k < length os → 0 < strength (claim_at t i os held k) → Waits t os held k
 claim_waits t os held i k h pos = go (waits t (slice_index os k) (slice_index_or held k false)) refl pos

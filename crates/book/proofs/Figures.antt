@@ -1,6 +1,6 @@
 -- From what a search answers to the figures that answers go by.
 use Rattle.std.proofs.Common.{◌≡◌, ℕ, zero, suc, ◌<◌, ◌≤◌, Bool, true, false, cond, eqb, ltb, List, [], ◌∷◌, length, get_or, Some, None, Ok, Err, Result, sym, refl, ap, ◌∙◌, ⊎_elim, arith}
-use Rattle.std.proofs.lemmas.Bool.{cases_lt, cond_true, cond-false, eq-eqb, ltb-true, ne_eqb}
+use Rattle.std.proofs.lemmas.Bool.{cases_lt, cond-true, cond-false, eq-eqb, ltb-true, ne_eqb}
 use Rattle.tables.proofs.Searches.{ascending_in_order}
 use Rattle.tables.specs.Finding.{Ascending, Found}
 use Rattle.tally.proofs.Ascents.{ltb_one}
@@ -17,7 +17,7 @@ use Rattle.book.specs.declared.swaptions.Swaption.{Swaption}
 -- ---- swaptions
 first_terms : (rows : List Swaption) (n i : ℕ) (d : Swaption) → i < length rows → (get_or rows i d).terms.number ≡ n → ((m : ℕ) (e : Swaption) → m < i → eqb (get_or rows m e).terms.number n ≡ false) → (terms_with n (terms_of_rows rows) ≡ Some (get_or rows i d).terms) × (volume_in n rows ≡ (get_or rows i d).traded)
 first_terms [] n i d in' is low = absurd (omega arith)
-first_terms (x ∷ rows) n zero d in' is low = let e = eq-eqb x.terms.number n is in (cond_true (eqb x.terms.number n) _ _ e, cond_true (eqb x.terms.number n) _ _ e)
+first_terms (x ∷ rows) n zero d in' is low = let e = eq-eqb x.terms.number n is in (cond-true (eqb x.terms.number n) _ _ e, cond-true (eqb x.terms.number n) _ _ e)
 first_terms (x ∷ rows) n (suc i) d in' is low =
     let e = low 0 x (omega arith) in
     let rest = first_terms rows n i d (omega arith) is (λ m y h. low (suc m) y (omega arith)) in
@@ -48,7 +48,7 @@ module _ (rows : List Swaption) (asc : Ascending (λ s. s.terms.number) ltb rows
 -- ---- positions
 among_at : (rows : List Position) (k : PositionKey) (i : ℕ) (d : Position) → i < length rows → (get_or rows i d).key ≡ k → is_among k (keys_of_rows rows) ≡ true
 among_at [] k i d in' is = absurd (omega arith)
-among_at (x ∷ rows) k zero d in' is = cond_true (same_key x.key k) _ _ (ap (λ j. same_key j k) is ∙ same_itself k)
+among_at (x ∷ rows) k zero d in' is = cond-true (same_key x.key k) _ _ (ap (λ j. same_key j k) is ∙ same_itself k)
 among_at (x ∷ rows) k (suc i) d in' is = both_true (same_key x.key k) (is_among k (keys_of_rows rows)) (among_at rows k i d (omega arith) is)
   where
     both_true : (b r : Bool) → r ≡ true → cond b true r ≡ true
@@ -61,7 +61,7 @@ not_among (x ∷ rows) k none = cond-false (same_key x.key k) _ _ (none 0 x (ome
 
 -- a position is missing just if the search says so
 pub missing_found : (rows : List Position) → Ascending (λ p. p.key) before rows → (k : PositionKey) (d : Position) (r : Result ℕ ℕ) → Found (λ p. p.key) before rows k r → missing k (keys_of_rows rows) ≡ missing_at r
-missing_found rows asc k d (Ok i) f = cond_true (is_among k (keys_of_rows rows)) 0 1 (among_at rows k i d f.0 (f.1 d))
+missing_found rows asc k d (Ok i) f = cond-true (is_among k (keys_of_rows rows)) 0 1 (among_at rows k i d f.0 (f.1 d))
 missing_found rows asc k d (Err i) f =
     let parts = f.1 (ascending_in_order (λ p. p.key) before before_one rows asc) in
     cond-false (is_among k (keys_of_rows rows)) 0 1

@@ -4,7 +4,7 @@ use mathlib.Core.Logic.{∥∥₁_elim, ∥∥₁_map}
 use native.Mathlib.Bridge.{le_prop}
 use Rattle.std.proofs.ByRecursion.{All-from_get_or, All-get_or}
 use Rattle.std.proofs.lemmas.List.{get_or_default, get_or-map, get_or-set_other, get_or-set_same, get_or-take, length-map, length-set, length-take, length-take-le, same_lists}
-use Rattle.std.proofs.lemmas.Bool.{cases_order, cond-false, cond_true, eq-eqb, ltb-true, ne_eqb}
+use Rattle.std.proofs.lemmas.Bool.{cases_order, cond-false, cond-true, eq-eqb, ltb-true, ne_eqb}
 use Rattle.std.specs.List.{AllByRecursion as All}
 use Rattle.refusals.specs.declared.Refusal.TheVariants.{InvalidTerms, NotListed}
 use Rattle.tables.specs.Finding.{Ascending, Found}
@@ -51,7 +51,7 @@ module _ (rows : List Swaption) (asc : Ascending (λ s. s.terms.number) ltb rows
       ⊎_elim
       (λ at.
       ap (λ x. get_or (set rows i (change (get_or rows i d))) x e) at ∙ get_or-set_same rows i (change (get_or rows i d)) e f.0 ∙ ap change (get_or_default rows i d e f.0 ∙ ap (λ x. get_or rows x e) (sym at))
-      ∙ sym (right ∙ cond_true (eqb n (get_or rows m e).terms.number) _ _ (eq-eqb n (get_or rows m e).terms.number (sym (ap (λ x. (get_or rows x e).terms.number) at ∙ f.1 e)))))
+      ∙ sym (right ∙ cond-true (eqb n (get_or rows m e).terms.number) _ _ (eq-eqb n (get_or rows m e).terms.number (sym (ap (λ x. (get_or rows x e).terms.number) at ∙ f.1 e)))))
       (⊎_elim
       (λ low. get_or-set_other rows i m (change (get_or rows i d)) e (λ same. omega arith) ∙ sym (right ∙ cond-false (eqb n (get_or rows m e).terms.number) _ _ (others_differ m e (low, in'))))
       (λ high. get_or-set_other rows i m (change (get_or rows i d)) e (λ same. omega arith) ∙ sym (right ∙ cond-false (eqb n (get_or rows m e).terms.number) _ _ (others_differ_above m e (high, in')))))
@@ -87,7 +87,7 @@ module _ (book : Book) (deal : Deal) where
   -- a sound trade in a swaption that is not listed
   pub book_misses_swaption : sound_deal deal ≡ true → (i : ℕ) → Found (λ s. s.terms.number) ltb S deal.swaption (Err i) → Err NotListed ≡ trade_says S P book.latest deal
   book_misses_swaption sound i f =
-      sym (cond_true (sound_deal deal) _ (Err InvalidTerms) sound
+      sym (cond-true (sound_deal deal) _ (Err InvalidTerms) sound
       ∙ ap (λ o. if_listed o (λ terms. trade_rows deal terms book.latest (volume_in deal.swaption S) (missing (buyer_of deal) (keys_of_rows P) + missing (seller_of deal) (keys_of_rows P)) (length (keys_of_rows P)))) (listed_terms_missing S s_ascends deal.swaption i f))
 
   -- what was judged of a sound trade in a listed swaption, by what the searches found
@@ -96,7 +96,7 @@ module _ (book : Book) (deal : Deal) where
     book_judges_trade =
         let found = listed_terms_found S s_ascends deal.swaption at row listed_at in
         sym
-        (cond_true (sound_deal deal) _ (Err InvalidTerms) sound
+        (cond-true (sound_deal deal) _ (Err InvalidTerms) sound
         ∙ ap (λ o. if_listed o (λ terms. trade_rows deal terms book.latest (volume_in deal.swaption S) (missing (buyer_of deal) (keys_of_rows P) + missing (seller_of deal) (keys_of_rows P)) (length (keys_of_rows P)))) (found.0 ∙ ap (λ s. Some s.terms) (sym row_is))
         ∙ ap (λ v. trade_rows deal row.terms book.latest v (missing (buyer_of deal) (keys_of_rows P) + missing (seller_of deal) (keys_of_rows P)) (length (keys_of_rows P))) (found.1 ∙ ap (λ s. s.traded) (sym row_is))
         ∙ ap (λ m. trade_rows deal row.terms book.latest row.traded (m + missing (seller_of deal) (keys_of_rows P)) (length (keys_of_rows P))) (missing_found P positions_up (buyer_of deal) blank buyer buyer_found)

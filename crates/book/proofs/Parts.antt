@@ -3,7 +3,7 @@ use Rattle.std.proofs.Common.{◌≡◌, ℕ, zero, suc, ◌+◌, ◌-◌, ◌<�
 use borrow.Rule.Slice.PartMut.{mid_of}
 use Rattle.std.proofs.lemmas.List.Edits.{length-insert}
 use Rattle.std.proofs.lemmas.List.{length-take-le, take_at, take-take}
-use Rattle.std.proofs.lemmas.Bool.{and_from, cond_true, le-leb, lt-ltb}
+use Rattle.std.proofs.lemmas.Bool.{and_from, cond-true, le-leb, lt-ltb}
 use Rattle.std.specs.List.{insert}
 use Rattle.tables.specs.Changes.{moved_up, moved_up_twice, two_fit}
 
@@ -24,7 +24,7 @@ put_in_part rows n at x new rest in' le e =
     let is = part_is (n + 1) rows in
     let long : length part ≡ n + 1 = ap length is ∙ length-take-le (n + 1) rows (omega arith) in
     let front : take (length part - 1) part ≡ take n rows = ap (λ k. take k part) (omega arith) ∙ ap (take n) is ∙ take-take n (n + 1) rows (omega arith) in
-    let put : new ≡ insert (take n rows) at x = e ∙ cond_true (ltb at (length part)) _ part (lt-ltb at (length part) (omega arith)) ∙ ap (λ xs. insert xs at x) front in
+    let put : new ≡ insert (take n rows) at x = e ∙ cond-true (ltb at (length part)) _ part (lt-ltb at (length part) (omega arith)) ∙ ap (λ xs. insert xs at x) front in
     let short = length-take-le n rows (omega arith) in
     let size : length new ≡ n + 1 = ap length put ∙ length-insert (take n rows) at x (omega arith) ∙ omega arith in
     take_at new rest (n + 1) size ∙ put
@@ -37,7 +37,7 @@ put_two_in_part rows n low x high y new rest in' ordered le e =
     let long : length part ≡ n + 2 = ap length is ∙ length-take-le (n + 2) rows (omega arith) in
     let front : take (length part - 2) part ≡ take n rows = ap (λ k. take k part) (omega arith) ∙ ap (take n) is ∙ take-take n (n + 2) rows (omega arith) in
     let fits : two_fit (length part) low high ≡ true = and_from (leb low high) (ltb (high + 1) (length part)) (le-leb low high ordered) (lt-ltb (high + 1) (length part) (omega arith)) in
-    let put : new ≡ insert (insert (take n rows) high y) low x = e ∙ cond_true (two_fit (length part) low high) _ part fits ∙ ap (λ xs. insert (insert xs high y) low x) front in
+    let put : new ≡ insert (insert (take n rows) high y) low x = e ∙ cond-true (two_fit (length part) low high) _ part fits ∙ ap (λ xs. insert (insert xs high y) low x) front in
     let short = length-take-le n rows (omega arith) in
     let one = length-insert (take n rows) high y (omega arith) in
     let size : length new ≡ n + 2 = ap length put ∙ length-insert (insert (take n rows) high y) low x (omega arith) ∙ omega arith in

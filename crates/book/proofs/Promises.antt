@@ -1,7 +1,7 @@
 -- What is promised of a call follows from what the call answers and leaves.
 use Rattle.std.proofs.Common.{◌≡◌, ℕ, ◌≤◌, true, false, List, [], ◌∷◌, map, is_ok, Some, None, Ok, Err, Option, sym, refl, ap, ◌∙◌, subst, ⊎_elim, arith}
 use Rattle.std.proofs.ByRecursion.{All-map}
-use Rattle.std.proofs.lemmas.Bool.{cases_Bool, cond-false, cond_true, or_right}
+use Rattle.std.proofs.lemmas.Bool.{cases_Bool, cond-false, cond-true, or_right}
 use Rattle.std.specs.Option.{option_map}
 use Rattle.std.specs.List.{AllByRecursion as All}
 use Rattle.tally.proofs.Bounds.{bound_rises_with_trade, recorded_bound}
@@ -41,7 +41,7 @@ bound_among : (t : History) (k : PositionKey) (keys : List PositionKey) → is_a
 bound_among t k [] e = let z : ◌≡◌ {A = ℕ} 0 1 = cc in absurd (omega arith)
 bound_among t k (j ∷ keys) e =
     ⊎_elim
-    (λ (y : same_key j k ≡ true). cond_true (same_key j k) _ _ y ∙ recorded_bound t j ∙ ap (bound_amount t) (same_means_equal j k y))
+    (λ (y : same_key j k ≡ true). cond-true (same_key j k) _ _ y ∙ recorded_bound t j ∙ ap (bound_amount t) (same_means_equal j k y))
     (λ (y : same_key j k ≡ false). cond-false (same_key j k) _ _ y ∙ bound_among t k keys (sym (cond-false (same_key j k) true (is_among k keys) y) ∙ e))
     (cases_Bool (same_key j k))
 
@@ -49,7 +49,7 @@ bound_of_stranger : (t : History) (k : PositionKey) (keys : List PositionKey) �
 bound_of_stranger t k [] e = refl
 bound_of_stranger t k (j ∷ keys) e =
     ⊎_elim
-    (λ (y : same_key j k ≡ true). let s : true ≡ false = sym (cond_true (same_key j k) true (is_among k keys) y) ∙ e in let z : ◌≡◌ {A = ℕ} 0 1 = cc in absurd (omega arith))
+    (λ (y : same_key j k ≡ true). let s : true ≡ false = sym (cond-true (same_key j k) true (is_among k keys) y) ∙ e in let z : ◌≡◌ {A = ℕ} 0 1 = cc in absurd (omega arith))
     (λ (y : same_key j k ≡ false). cond-false (same_key j k) _ _ y ∙ bound_of_stranger t k keys (sym (cond-false (same_key j k) true (is_among k keys) y) ∙ e))
     (cases_Bool (same_key j k))
 

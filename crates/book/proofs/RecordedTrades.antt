@@ -2,7 +2,7 @@
 use Rattle.std.proofs.Common.{◌≡◌, ℕ, suc, ◌+◌, ◌≤◌, Bool, true, false, cond, not, eqb, List, [], ◌∷◌, map, length, get_or, ℤ, pos, ◌+ℤ◌, ◌-ℤ◌, neg_ℤ, nat_abs, Some, None, Option, sym, refl, ap, ◌∙◌, subst, ⊎_elim, arith}
 use Rattle.std.proofs.ByRecursion.{All-from_get_or, All-map, All-weaker}
 use Rattle.std.proofs.lemmas.Int.{ints}
-use Rattle.std.proofs.lemmas.Bool.{and_parts, cases_Bool, cond_both, cond_true, cond-false, eq-eqb, eqb-true, not-true, or_parts}
+use Rattle.std.proofs.lemmas.Bool.{and_parts, cases_Bool, cond_both, cond-true, cond-false, eq-eqb, eqb-true, not-true, or_parts}
 use Rattle.std.proofs.lemmas.Bool.Decides.{nat_tests}
 use Rattle.std.specs.List.{AllByRecursion as All}
 use Rattle.tables.proofs.Comparisons.{by_order}
@@ -88,7 +88,7 @@ volume_back : (t : History) (n : ℕ) (all : List Terms) (terms : Terms) → ter
 volume_back t n [] terms e = let z : ◌≡◌ {A = ℕ} 0 1 = cc in absurd (omega arith)
 volume_back t n (x ∷ all) terms e =
     ⊎_elim
-    (λ (y : eqb x.number n ≡ true). cond_true (eqb x.number n) (traded_in t x.number) _ y ∙ ap (traded_in t) (eqb-true x.number n y))
+    (λ (y : eqb x.number n ≡ true). cond-true (eqb x.number n) (traded_in t x.number) _ y ∙ ap (traded_in t) (eqb-true x.number n y))
     (λ (y : eqb x.number n ≡ false). cond-false (eqb x.number n) (traded_in t x.number) _ y ∙ volume_back t n all terms (sym (cond-false (eqb x.number n) (Some x) (terms_with n all) y) ∙ e))
     (cases_Bool (eqb x.number n))
 
@@ -153,7 +153,7 @@ module _ (t : History) (swaptions : SwaptionTable) (positions : PositionTable) (
     once_bought =
         rows_netted (position_of t) bought (buyer_of deal) deal.amount (λ _. refl)
         (λ j ne. cond-false (same_key (buyer_of deal) j) _ _ ne)
-        (cond_true (same_key (buyer_of deal) (buyer_of deal)) _ _ (same_itself (buyer_of deal)))
+        (cond-true (same_key (buyer_of deal) (buyer_of deal)) _ _ (same_itself (buyer_of deal)))
         (position_keys t) (keys_ascend t) (fresh_stranger (buyer_of deal) same_number)
 
     once_sold : map (position_of (traded deal ∷ t)) (position_keys (traded deal ∷ t)) ≡ netted (seller_of deal) (neg_ℤ deal.amount) (map bought (with_key (buyer_of deal) (position_keys t)))

@@ -1,7 +1,7 @@
 -- The price of the last row that applies.
 use Rattle.std.specs.Prelude.{◌≡◌, ℕ, zero, suc, ◌<◌, ◌≤◌, Bool, true, false, cond, ◌⊎◌, List, [], ◌∷◌, length, Some, None, Option, slice_index_or, refl}
 use Rattle.std.proofs.Common.{inl, inr, ⊎_elim, sym, ap, subst, ◌∙◌, arith}
-use Rattle.std.proofs.lemmas.Bool.{cases_Bool, cond_true, cond-false}
+use Rattle.std.proofs.lemmas.Bool.{cases_Bool, cond-true, cond-false}
 use Rattle.prices.specs.Quotes.{or_else, last_price, Priced}
 use Rattle.prices.specs.Rows.{highest_price, InRange}
 
@@ -21,7 +21,7 @@ module _ {X : Type 0} (applies : X → Bool) (price : X → ℕ) where
   pub last_at : (rows : List X) (place : ℕ) (d : X) → place < length rows → applies (slice_index_or rows place d) ≡ true → ((i : ℕ) (e : X) → place < i → i < length rows → applies (slice_index_or rows i e) ≡ false) → last_price applies price rows ≡ Some (price (slice_index_or rows place d))
   last_at [] place d in' here after = absurd (omega arith)
   last_at (x ∷ xs) zero d in' here after =
-      ap (λ o. or_else o (cond (applies x) (Some (price x)) None)) (last_none xs (λ i e lt. after (suc i) e (omega arith) (omega arith))) ∙ cond_true (applies x) _ _ here
+      ap (λ o. or_else o (cond (applies x) (Some (price x)) None)) (last_none xs (λ i e lt. after (suc i) e (omega arith) (omega arith))) ∙ cond-true (applies x) _ _ here
   last_at (x ∷ xs) (suc place) d in' here after =
       ap (λ o. or_else o (cond (applies x) (Some (price x)) None)) (last_at xs place d (omega arith) here (λ i e gt lt. after (suc i) e (omega arith) (omega arith)))
 
@@ -29,7 +29,7 @@ module _ {X : Type 0} (applies : X → Bool) (price : X → ℕ) where
   priced_first : (x : X) (xs : List X) (p : ℕ) → cond (applies x) (Some (price x)) None ≡ Some p → Priced applies price (x ∷ xs) p
   priced_first x xs p e =
       ⊎_elim
-      (λ yes. let s = sym (cond_true (applies x) (Some (price x)) None yes) ∙ e in let same : price x ≡ p = cc in (x, (0, omega arith, λ d. refl), yes, same))
+      (λ yes. let s = sym (cond-true (applies x) (Some (price x)) None yes) ∙ e in let same : price x ≡ p = cc in (x, (0, omega arith, λ d. refl), yes, same))
       (λ no. let s = sym (cond-false (applies x) (Some (price x)) None no) ∙ e in let z : ◌≡◌ {A = ℕ} 0 1 = cc in absurd (omega arith))
       (cases_Bool (applies x))
 

@@ -1,7 +1,7 @@
 -- What `entered` is at the place that a search finds, and that the keys ascend after it.
 use Rattle.std.proofs.Common.{◌≡◌, ℕ, zero, suc, ◌<◌, ◌≤◌, Bool, true, List, [], ◌∷◌, length, get_or, set, Ok, Err, sym, refl, ap, ◌∙◌, subst, arith}
 use Rattle.std.specs.List.{insert, AllByRecursion as All}
-use Rattle.std.proofs.lemmas.Bool.{cond_true, cond-false, cond_both}
+use Rattle.std.proofs.lemmas.Bool.{cond-true, cond-false, cond_both}
 use Rattle.tables.specs.Entering.{entered}
 use Rattle.tables.specs.Finding.{Ascending, Below, Above, Found}
 use Rattle.tables.specs.Orders.{Trichotomous, Transitive}
@@ -11,11 +11,11 @@ use Rattle.tables.proofs.Searches.{ascending_in_order}
 module _ {X K : Type 0} (key : X → K) (less : K → K → Bool) (one : Trichotomous less) (k : K) (change : X → X) (new : X) where
   -- before a row with a greater key
   pub entered_before : (x : X) (xs : List X) → less k (key x) ≡ true → entered key less k change new (x ∷ xs) ≡ new ∷ x ∷ xs
-  entered_before x xs gt = cond_true (less k (key x)) _ _ gt
+  entered_before x xs gt = cond-true (less k (key x)) _ _ gt
 
   -- past a row with a less key
   pub entered_past : (x : X) (xs : List X) → less (key x) k ≡ true → entered key less k change new (x ∷ xs) ≡ x ∷ entered key less k change new xs
-  entered_past x xs lt = cond-false (less k (key x)) _ _ (less_not_greater less one (key x) k lt) ∙ cond_true (less (key x) k) _ _ lt
+  entered_past x xs lt = cond-false (less k (key x)) _ _ (less_not_greater less one (key x) k lt) ∙ cond-true (less (key x) k) _ _ lt
 
   -- a row with the key
   pub entered_here : (x : X) (xs : List X) → key x ≡ k → entered key less k change new (x ∷ xs) ≡ change x ∷ xs

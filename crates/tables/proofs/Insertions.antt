@@ -3,7 +3,7 @@ use Rattle.std.proofs.Common.{◌≡◌, ℕ, ◌+◌, ◌-◌, ◌<◌, ◌≤�
 use Rattle.std.specs.List.{insert}
 use Rattle.std.proofs.lemmas.List.Edits.{length-insert, get_or-insert_below, get_or-insert_at, get_or-insert_above}
 use Rattle.std.proofs.lemmas.List.{get_or-set_same, get_or-set_other, get_or-take, length-set, length-take-le, same_lists}
-use Rattle.std.proofs.lemmas.Bool.{cases_eq, cases_order, cond_true, lt-ltb}
+use Rattle.std.proofs.lemmas.Bool.{cases_eq, cases_order, cond-true, lt-ltb}
 use Rattle.tables.specs.Changes.{moved_up}
 use Rattle.tables.specs.Finding.{Ascending, Below, Above}
 
@@ -38,7 +38,7 @@ module _ {X : Type 0} (old rows : List X) (at : ℕ) (x : X) (in' : at < length 
       (cases_order k at))
 
   pub shifted_moved_up : set rows at x ≡ moved_up old at x
-  shifted_moved_up = shifted_inserted ∙ sym (cond_true (ltb at (length old)) (insert (take (length old - 1) old) at x) old (lt-ltb at (length old) in'))
+  shifted_moved_up = shifted_inserted ∙ sym (cond-true (ltb at (length old)) (insert (take (length old - 1) old) at x) old (lt-ltb at (length old) in'))
 
 -- keys that ascend still do, with a row put in between the lesser and the greater
 module _ {X K : Type 0} (key : X → K) (less : K → K → Bool) (rows : List X) (at : ℕ) (x : X) (le : at ≤ length rows) (asc : Ascending key less rows) (below : Below key less rows (key x) at) (above : Above key less rows (key x) at) where

@@ -3,7 +3,7 @@ use Rattle.std.proofs.Common.{◌≡◌, ℕ, ◌+◌, ◌-◌, ◌<◌, ◌≤�
 use Rattle.std.specs.List.{insert}
 use Rattle.std.proofs.lemmas.List.Edits.{length-insert, get_or-insert_below, get_or-insert_at, get_or-insert_above}
 use Rattle.std.proofs.lemmas.List.{get_or-set_same, get_or-set_other, get_or-take, length-set, length-take-le, same_lists}
-use Rattle.std.proofs.lemmas.Bool.{and_from, cases_order, cond_true, le-leb, lt-ltb}
+use Rattle.std.proofs.lemmas.Bool.{and_from, cases_order, cond-true, le-leb, lt-ltb}
 use Rattle.tables.specs.Changes.{moved_up_twice, two_fit}
 
 -- rows of which those from a place on were copied to another place
@@ -70,4 +70,4 @@ module _ {X : Type 0} (old up rows : List X) (low high : ℕ) (x y : X) (ordered
   fit = and_from (leb low high) (ltb (high + 1) (length old)) (le-leb low high ordered) (lt-ltb (high + 1) (length old) fits)
 
   pub put_twice : set rows low x ≡ moved_up_twice old low x high y
-  put_twice = two_put ∙ sym (cond_true (two_fit (length old) low high) (insert (insert (take (length old - 2) old) high y) low x) old fit)
+  put_twice = two_put ∙ sym (cond-true (two_fit (length old) low high) (insert (insert (take (length old - 2) old) high y) low x) old fit)

@@ -1,6 +1,6 @@
 -- The terms of the listed swaptions: every one is sound, and a list adds its own alone.
 use Rattle.std.proofs.Common.{◌≡◌, ℕ, ◌<◌, ◌≤◌, true, false, cond, eqb, ltb, List, [], ◌∷◌, length, is_some, Some, None, sym, refl, ap, ◌∙◌, subst, ⊎_elim, arith}
-use Rattle.std.proofs.lemmas.Bool.{cases_Bool, cond_both, cond_true, cond-false, eq-eqb, ltb-false}
+use Rattle.std.proofs.lemmas.Bool.{cases_Bool, cond_both, cond-true, cond-false, eq-eqb, ltb-false}
 use Rattle.std.proofs.lemmas.Bool.Decides.{nat_tests}
 use Rattle.std.specs.List.{AllByRecursion as All}
 use Rattle.tables.proofs.Entries.{all_entered}
@@ -25,20 +25,20 @@ terms_other terms n (x ∷ xs) ne =
 
 -- the swaption that is added is listed
 pub terms_new : (terms : Terms) (all : List Terms) → is_listed terms.number (with_terms terms all) ≡ true
-terms_new terms [] = ap is_some (cond_true (eqb terms.number terms.number) (Some terms) None (eq-eqb terms.number terms.number refl))
+terms_new terms [] = ap is_some (cond-true (eqb terms.number terms.number) (Some terms) None (eq-eqb terms.number terms.number refl))
 terms_new terms (x ∷ xs) =
     cond_both (ltb terms.number x.number) _ _ (λ ys. is_listed terms.number ys ≡ true)
-    (λ _. ap is_some (cond_true (eqb terms.number terms.number) (Some terms) _ (eq-eqb terms.number terms.number refl)))
+    (λ _. ap is_some (cond-true (eqb terms.number terms.number) (Some terms) _ (eq-eqb terms.number terms.number refl)))
     (λ not_less. cond_both (ltb x.number terms.number) _ _ (λ ys. is_listed terms.number ys ≡ true)
     (λ _. cond_both (eqb x.number terms.number) (Some x) _ (λ o. is_some o ≡ true) (λ _. refl) (λ _. terms_new terms xs))
-    (λ not_more. ap is_some (cond_true (eqb x.number terms.number) (Some x) _ (eq-eqb x.number terms.number (omega (arith, ltb-false terms.number x.number not_less, ltb-false x.number terms.number not_more))))))
+    (λ not_more. ap is_some (cond-true (eqb x.number terms.number) (Some x) _ (eq-eqb x.number terms.number (omega (arith, ltb-false terms.number x.number not_less, ltb-false x.number terms.number not_more))))))
 
 -- what holds of all terms holds of those found
 pub holds_of_found : (P : Terms → Type 0) (n : ℕ) (all : List Terms) (terms : Terms) → All P all → terms_with n all ≡ Some terms → P terms
 holds_of_found P n [] terms a e = let z : ◌≡◌ {A = ℕ} 0 1 = cc in absurd (omega arith)
 holds_of_found P n (x ∷ xs) terms a e =
     ⊎_elim
-    (λ (y : eqb x.number n ≡ true). let s : Some x ≡ Some terms = sym (cond_true (eqb x.number n) (Some x) (terms_with n xs) y) ∙ e in let same : x ≡ terms = cc in subst P same a.0)
+    (λ (y : eqb x.number n ≡ true). let s : Some x ≡ Some terms = sym (cond-true (eqb x.number n) (Some x) (terms_with n xs) y) ∙ e in let same : x ≡ terms = cc in subst P same a.0)
     (λ (y : eqb x.number n ≡ false). holds_of_found P n xs terms a.1 (sym (cond-false (eqb x.number n) (Some x) (terms_with n xs) y) ∙ e))
     (cases_Bool (eqb x.number n))
 

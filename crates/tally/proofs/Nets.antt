@@ -1,7 +1,7 @@
 -- Nets: no larger than what was traded, and nothing where there is no position.
 use Rattle.std.proofs.Common.{◌≡◌, ℕ, ◌+◌, ◌≤◌, Bool, true, false, eqb, [], ◌∷◌, length, ℤ, pos, ◌+ℤ◌, ◌-ℤ◌, nat_abs, sym, refl, ap, ◌∙◌, subst, ⊎_elim, arith}
 use Rattle.std.proofs.lemmas.Int.{ints}
-use Rattle.std.proofs.lemmas.Bool.{cases_Bool, cond_both, cond_true, cond-false, eqb-true, or_parts}
+use Rattle.std.proofs.lemmas.Bool.{cases_Bool, cond_both, cond-true, cond-false, eqb-true, or_parts}
 use Rattle.tally.specs.Deals.{buyer_of, seller_of}
 use Rattle.tally.specs.History.{History, listed, traded, proposed, preliminary, withdrawn, noticed, failed, assigned, amount_if, latest_moment, net_of, position_keys, terms_in, traded_in, with_key}
 use Rattle.tally.specs.Keys.{same_key}
@@ -30,7 +30,7 @@ net_within (traded deal ∷ t) k =
     let i = net_within t k in
     ⊎_elim
     (λ (e : eqb deal.swaption k.swaption ≡ true).
-    let more = cond_true (eqb deal.swaption k.swaption) (traded_in t k.swaption + nat_abs deal.amount) (traded_in t k.swaption) e in
+    let more = cond-true (eqb deal.swaption k.swaption) (traded_in t k.swaption + nat_abs deal.amount) (traded_in t k.swaption) e in
     omega (arith, i, more, moved_size (net_of t k) deal.amount (same_key (buyer_of deal) k) (same_key (seller_of deal) k)))
     (λ (e : eqb deal.swaption k.swaption ≡ false).
     let more = cond-false (eqb deal.swaption k.swaption) (traded_in t k.swaption + nat_abs deal.amount) (traded_in t k.swaption) e in
