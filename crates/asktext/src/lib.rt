@@ -1,4 +1,5 @@
 // Reads one line of text that holds an ask.
+#![tactic(auto)]
 ghost use Rattle.std.specs.Prelude.{◌≡◌, ◌<◌, ◌∷◌, length, IfSome, IfOk, Some};
 ghost use Rattle.asktext.specs.Format.{all_space, answer_says, is_comment, is_space, line_says, numbers_say, without_return, words};
 ghost use Rattle.asktext.specs.Parts.{FirstBlank, Numbered, grown_by, later_words, number_of_word};

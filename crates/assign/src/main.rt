@@ -1,4 +1,5 @@
 // Reads asks, one to a line, and prints the steps by which each is assigned.
+#![tactic(auto)]
 mod report;
 mod steps;
 

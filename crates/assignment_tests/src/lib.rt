@@ -1,4 +1,5 @@
 // The rules at the edges of a sound ask.
+#![tactic(auto)]
 #[cfg(test)]
 mod tests {
     use assignment::{Blocks, Choice, FitRule, Running};

@@ -1,4 +1,5 @@
 // The book at the edges of what it takes.
+#![tactic(auto)]
 #[cfg(test)]
 mod checks;
 #[cfg(test)]

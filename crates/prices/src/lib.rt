@@ -1,4 +1,5 @@
 // Prices, what they come from, and what a payoff is worth at one.
+#![tactic(auto)]
 mod marks;
 mod payoffs;
 mod rows;

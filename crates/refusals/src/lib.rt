@@ -1,5 +1,7 @@
 // The numbered refusals: one for whatever is turned down, by the book, by an
 // assignment rule or by the day file's reader.
+#![tactic(auto)]
+
 ghost use Rattle.std.specs.Prelude.{◌≡◌, Some};
 ghost use Rattle.refusals.specs.Numbers.{number_of, place_of};
 ghost use Rattle.refusals.specs.Shown.{shown_as};

@@ -8,15 +8,15 @@ use std::cmp::Ordering;
 // The place of a row with the key, or else the place where one belongs. In
 // rows that are in order only one answer is right, so it is always the same.
 pub fn find<T: Keyed>(rows: &[T], key: &T::Key) -> Result<usize, usize>
-    ensures found { Found named T.Key.Key.less rows.now key.now result }
-    ensures same { InOrder named T.Key.Key.less rows.now → (other : Answer) → Found named T.Key.Key.less rows.now key.now other → result ≡ other }
+    ensures found { Found T.named T.Key.Key.less rows.now key.now result }
+    ensures same { InOrder T.named T.Key.Key.less rows.now → (other : Answer) → Found T.named T.Key.Key.less rows.now key.now other → result ≡ other }
 {
     last_with(rows, key)
 }
 
 // The same search: it ends at the last row with the key if there are several.
 fn last_with<T: Keyed>(rows: &[T], key: &T::Key) -> Result<usize, usize>
-    ensures { Found named T.Key.Key.less rows.now key.now result }
+    ensures { Found T.named T.Key.Key.less rows.now key.now result }
 {
     let end = end_of(rows, key);
     if end == 0 {
@@ -31,7 +31,7 @@ fn last_with<T: Keyed>(rows: &[T], key: &T::Key) -> Result<usize, usize>
 // The place after the rows with the key and the lesser ones.
 fn end_of<T: Keyed>(rows: &[T], key: &T::Key) -> usize
     ensures within { result ≤ length rows.now }
-    ensures parts { InOrder named T.Key.Key.less rows.now → UpTo named T.Key.Key.less rows.now key.now result × Above named T.Key.Key.less rows.now key.now result }
+    ensures parts { InOrder T.named T.Key.Key.less rows.now → UpTo T.named T.Key.Key.less rows.now key.now result × Above T.named T.Key.Key.less rows.now key.now result }
 {
     let mut low = 0;
     let mut high = rows.len();

@@ -1,4 +1,6 @@
 // Rows of any kind: kept in the order of their keys, searched, changed and added up.
+#![tactic(auto)]
+
 mod changes;
 mod finds;
 mod keys;

@@ -11,8 +11,8 @@ pub trait Counted {
 
 // The sum of the amounts.
 pub fn total<T: Counted>(rows: &[T]) -> u128
-    ensures sum { result ≡ sum_by counts rows.now }
-    ensures fits { sum_by counts rows.now < 2 ^ 128 }
+    ensures sum { result ≡ sum_by T.counts rows.now }
+    ensures fits { sum_by T.counts rows.now < 2 ^ 128 }
 {
     let mut sum = 0;
     for row in rows {

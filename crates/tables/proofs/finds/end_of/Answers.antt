@@ -7,7 +7,7 @@ use Rattle.tables.proofs.finds.end_of.Goals as goal
 pub loop-low-preserved-in-Greater : goal.loop-low-preserved-in-Greater
 loop-low-preserved-in-Greater g c =
     let key = g.T.Keyed.named in
-    let less = g.Key-as-Key.less in
+    let less = g.T.Key.Key.less in
     let laws = g.met.T.Key.Key in
     let k = c.args.key.now in
     let x = c.index-rows-mid.result in
@@ -20,11 +20,11 @@ loop-low-preserved-in-Greater g c =
 pub loop-low-preserved : goal.loop-low-preserved
 loop-low-preserved g c =
     let key = g.T.Keyed.named in
-    let less = g.Key-as-Key.less in
+    let less = g.T.Key.Key.less in
     let laws = g.met.T.Key.Key in
     let k = c.args.key.now in
     let x = c.index-rows-mid.result in
-    let up_to : less k (key x) ≡ false = subst (λ a. less k a ≡ false) c.key.ensures (ranked_up_to less laws.exactly_one c.key.result k c.compare.result c.compare.ensures c.in-default.not-Greater) in (
+    let up_to : less k (key x) ≡ false = subst (λ a. less k a ≡ false) c.key.ensures (ranked_up_to less laws.exactly_one c.key.result k c.compare.result c.compare.ensures c.in_default.not-Greater) in (
       omega arith,
       omega arith,
       λ order. (up_to_past key less laws.exactly_one laws.transitive c.args.rows.now k _ (omega arith) x c.index-rows-mid.is order up_to, (c.loop-low.invariant.2 order).1),
@@ -33,7 +33,7 @@ loop-low-preserved g c =
 pub returns : goal.returns
 returns g c =
     let key = g.T.Keyed.named in
-    let less = g.Key-as-Key.less in
+    let less = g.T.Key.Key.less in
     let same : c.loop-low.high ≡ c.loop-low.low = omega arith in
     record {
       within = omega arith;

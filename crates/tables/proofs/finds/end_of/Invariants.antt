@@ -6,7 +6,7 @@ use Rattle.tables.proofs.finds.end_of.Given as goal
 abbrev pub invariant-loop-low : goal.invariant-loop-low
 invariant-loop-low g l =
     let key = g.T.Keyed.named in
-    let less = g.Key-as-Key.less in
+    let less = g.T.Key.Key.less in
     (l.low ≤ l.high) × (l.high ≤ length l.rows) × (InOrder key less l.rows → UpTo key less l.rows l.key l.low × Above key less l.rows l.key l.high)
 
 abbrev pub decreases-loop-low : goal.decreases-loop-low
