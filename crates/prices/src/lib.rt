@@ -1,5 +1,6 @@
 // Prices, what they come from, and what a payoff is worth at one.
 #![tactic(auto)]
+
 mod marks;
 mod payoffs;
 mod rows;

@@ -28,7 +28,7 @@ fn may_follow(least: u32, rank: u32, price: u32) -> bool
 // The place of the first row with a price above the highest, or with a rank
 // below that of the row before it.
 pub fn first_unsound<T: RankedPrice>(rows: &[T]) -> Option<usize>
-    ensures { MatchOption result (Sound ranked priced rows.now) (FirstUnsound ranked priced rows.now) }
+    ensures { MatchOption result (Sound T.ranked T.priced rows.now) (FirstUnsound T.ranked T.priced rows.now) }
 {
     let mut least = 0;
     for (place, row) in rows.iter().enumerate() {

@@ -4,8 +4,8 @@ use Rattle.std.proofs.lemmas.Bool.{cases_lt}
 use Rattle.prices.proofs.SoundRows.{fails, follows, sound_more, sound_price, sound_rank}
 use Rattle.prices.proofs.rows.first_unsound.Goals as goal
 
-pub returns-then-not-may-follow : goal.returns-then-not-may-follow
-returns-then-not-may-follow g c =
+pub returns-then-not-may_follow : goal.returns-then-not-may_follow
+returns-then-not-may_follow g c =
     let rank = g.T.RankedPrice.ranked in
     let price = g.T.RankedPrice.priced in
     let rows = c.args.rows.now in
@@ -21,7 +21,7 @@ returns-then-not-may-follow g c =
           (λ first. omega (arith, inv.2 (omega arith)))
           (cases_lt 0 n))
           (λ high. omega (arith, sound_price rank price rows n x (omega arith) read sound, c.price.ensures))
-          (fails c.loop-place.least c.rank-rank.result c.price.result c.may-follow.result c.may-follow.ensures c.if-not-may-follow.true),
+          (fails c.loop-place.least c.rank-rank.result c.price.result c.may_follow.result c.may_follow.ensures c.if-not-may_follow.true),
     )
 
 pub loop-place-preserved : goal.loop-place-preserved
@@ -33,7 +33,7 @@ loop-place-preserved g c =
     let x = c.index-rows-place.result in
     let read = c.index-rows-place.is in
     let inv = c.loop-place.invariant in
-    let test = follows c.loop-place.least c.rank-rank.result c.price.result c.may-follow.result c.may-follow.ensures c.if-not-may-follow.false in
+    let test = follows c.loop-place.least c.rank-rank.result c.price.result c.may_follow.result c.may_follow.ensures c.if-not-may_follow.false in
     let same : n ≡ n + 1 - 1 = omega arith in (
       sound_more rank price rows n x (omega arith) read inv.0
           (omega (arith, c.price.ensures))

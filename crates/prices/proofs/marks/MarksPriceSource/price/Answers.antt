@@ -10,7 +10,7 @@ pub returns-in-Ok : goal.returns-in-Ok
 returns-in-Ok c =
     let marks = c.args.self.now in
     let order = never_falling_in_order (λ mark. mark.index) marks.rows.items marks.never_falling in
-    let found = subst (λ rows. Found (λ mark. mark.index) ltb rows c.args.index (Ok c.in-Ok.place)) c.as-slice.ensures.value c.in-Ok.ensures.found in
+    let found = subst (λ rows. Found (λ mark. mark.index) ltb rows c.args.index (Ok c.in-Ok.place)) c.as_slice.ensures.value c.in-Ok.ensures.found in
     let price = marked_found marks.rows.items c.args.index order c.in-Ok.place c.index.result.now found in
     let answer : marked marks.rows.items c.args.index ≡ Some c.index.result.now.price = cc in
     record {
@@ -23,5 +23,5 @@ pub returns-in-Err : goal.returns-in-Err
 returns-in-Err c =
     let marks = c.args.self.now in
     let order = never_falling_in_order (λ mark. mark.index) marks.rows.items marks.never_falling in
-    let found = subst (λ rows. Found (λ mark. mark.index) ltb rows c.args.index (Err c.in-Err.field-0)) c.as-slice.ensures.value c.in-Err.ensures.found in
+    let found = subst (λ rows. Found (λ mark. mark.index) ltb rows c.args.index (Err c.in-Err.field-0)) c.as_slice.ensures.value c.in-Err.ensures.found in
     record { answered = sym (marked_missing marks.rows.items c.args.index order c.in-Err.field-0 found); stays = refl; held = tt }

@@ -7,7 +7,7 @@ pub returns : goal.returns
 returns c =
     let x = c.from.result in
     let y = c.from-2.result in
-    let net : to_z w128 (of_z w128 x) ≡ c.args.net = to_z-of_z w128 x (record { sfits = c.from.type-inv }) ∙ c.from.ensures ∙ to_z-of_z w64 c.args.net c.ranges.net in
-    let gain : to_z w128 (of_z w128 y) ≡ c.gain.result = to_z-of_z w128 y (record { sfits = c.from-2.type-inv }) ∙ c.from-2.ensures ∙ to_z-of_z w64 c.gain.result (record { sfits = c.gain.type-inv }) in
+    let net : to_z w128 (of_z w128 x) ≡ c.args.net = to_z-of_z w128 x (record { sfits = c.from.type_inv }) ∙ c.from.ensures ∙ to_z-of_z w64 c.args.net c.ranges.net in
+    let gain : to_z w128 (of_z w128 y) ≡ c.gain.result = to_z-of_z w128 y (record { sfits = c.from-2.type_inv }) ∙ c.from-2.ensures ∙ to_z-of_z w64 c.gain.result (record { sfits = c.gain.type_inv }) in
     let fits : SFits w128 (to_z w128 (of_z w128 x) *ℤ to_z w128 (of_z w128 y)) = search (ints, rules) in
     to_z-of_z w128 _ fits ∙ ap (λ z. z *ℤ to_z w128 (of_z w128 y)) net ∙ ap (λ z. c.args.net *ℤ z) (gain ∙ c.gain.ensures)

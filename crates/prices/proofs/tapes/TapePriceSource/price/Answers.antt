@@ -10,27 +10,27 @@ use Rattle.prices.proofs.tapes.TapePriceSource.price.Goals as goal
 no_row : TapeRow
 no_row = record { index = 0; moment = 0; price = 0 }
 
-pub returns-then-known-by : goal.returns-then-known-by
+pub returns-then-known_by : goal.returns-then-known_by
 unfolding no_row
-returns-then-known-by c =
+returns-then-known_by c =
     let index = c.args.index in
     let moment = c.args.moment in
-    let rows = c.as-slice-rows.result.now in
+    let rows = c.as_slice-rows.result.now in
     let place = c.loop-i.i - 1 in
-    let last : taped rows index moment ≡ Some (get_or rows place no_row).price = last_at (known_by index moment) (λ row. row.price) rows place no_row (omega arith) (sym c.if-known-by.ensures) (λ j d gt lt. c.loop-i.invariant j d (omega arith) lt) in
-    record { answered = sym (subst (λ xs. taped xs index moment ≡ Some (get_or rows place no_row).price) c.as-slice-rows.ensures.value last); stays = refl }
+    let last : taped rows index moment ≡ Some (get_or rows place no_row).price = last_at (known_by index moment) (λ row. row.price) rows place no_row (omega arith) (sym c.if-known_by.ensures) (λ j d gt lt. c.loop-i.invariant j d (omega arith) lt) in
+    record { answered = sym (subst (λ xs. taped xs index moment ≡ Some (get_or rows place no_row).price) c.as_slice-rows.ensures.value last); stays = refl }
 
 pub loop-i-preserved : goal.loop-i-preserved
 unfolding no_row
 loop-i-preserved c j d ge lt =
     let known = known_by c.args.index c.args.moment in
-    let rows = c.as-slice-rows.result.now in
+    let rows = c.as_slice-rows.result.now in
     let place = c.loop-i.i - 1 in
     ⊎_elim
     (λ here.
     let same : place ≡ j = omega arith in
     let in' : place < length rows = omega arith in
-    subst (λ k. known (get_or rows k d) ≡ false) same (ap known (get_or_default rows place d no_row in') ∙ sym c.if-known-by.ensures))
+    subst (λ k. known (get_or rows k d) ≡ false) same (ap known (get_or_default rows place d no_row in') ∙ sym c.if-known_by.ensures))
     (λ later. c.loop-i.invariant j d (omega arith) lt)
     (cases_lt j c.loop-i.i)
 
@@ -38,6 +38,6 @@ pub returns : goal.returns
 returns c =
     let index = c.args.index in
     let moment = c.args.moment in
-    let rows = c.as-slice-rows.result.now in
+    let rows = c.as_slice-rows.result.now in
     let none : taped rows index moment ≡ None = last_none (known_by index moment) (λ row. row.price) rows (λ j d lt. c.loop-i.invariant j d (omega arith) lt) in
-    record { answered = sym (subst (λ xs. taped xs index moment ≡ None) c.as-slice-rows.ensures.value none); stays = refl }
+    record { answered = sym (subst (λ xs. taped xs index moment ≡ None) c.as_slice-rows.ensures.value none); stays = refl }
