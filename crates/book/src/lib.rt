@@ -1,5 +1,6 @@
 // The expiry book: swaptions and positions in key order, and the calls on it.
 #![tactic(auto)]
+
 mod books;
 mod judgements;
 mod lists;

@@ -2,6 +2,7 @@
 // what they come to: the table of refusals, the history of accepted calls, and
 // all that is read off it. The definitions are in specs/.
 #![tactic(auto)]
+
 pub mod calls;
 pub mod deals;
 pub mod keys;

@@ -5,8 +5,8 @@ use Rattle.book.specs.Places.{Fits}
 use Rattle.book.proofs.Enterings.{found_fits, found_ordered, other_before, placed_in_order, with_rows_either_order}
 use Rattle.book.proofs.position_tables.PositionTable.enter_both.Goals as goal
 
-pub enter-in-order-requires : goal.enter-in-order-requires
-enter-in-order-requires c =
+pub enter_in_order-requires : goal.enter_in_order-requires
+enter_in_order-requires c =
     let rows = positions_in c.args.self.now in
     let asc = c.requires.ascending in
     let lt : before c.args.row.key c.args.another.key ≡ true = search rules in
@@ -17,8 +17,8 @@ enter-in-order-requires c =
       room = c.requires.room;
     }
 
-pub enter-in-order-requires-else-is-before : goal.enter-in-order-requires-else-is-before
-enter-in-order-requires-else-is-before c =
+pub enter_in_order-requires-else-is_before : goal.enter_in_order-requires-else-is_before
+enter_in_order-requires-else-is_before c =
     let rows = positions_in c.args.self.now in
     let asc = c.requires.ascending in
     let nlt : before c.args.row.key c.args.another.key ≡ false = search rules in
@@ -30,21 +30,21 @@ enter-in-order-requires-else-is-before c =
       room = omega (arith, c.requires.room);
     }
 
-pub returns-then-is-before : goal.returns-then-is-before
-returns-then-is-before c =
+pub returns-then-is_before : goal.returns-then-is_before
+returns-then-is_before c =
     let rows = positions_in c.args.self.now in
     let lt : before c.args.row.key c.args.another.key ≡ true = search rules in
     record {
-      rows = c.enter-in-order.ensures.rows ∙ placed_in_order rows c.requires.ascending c.args.row c.args.another lt c.args.one c.args.other c.requires.one_found c.requires.other_found ∙ with_rows_either_order c.args.row c.args.another lt rows;
-      count = c.enter-in-order.ensures.count;
+      rows = c.enter_in_order.ensures.rows ∙ placed_in_order rows c.requires.ascending c.args.row c.args.another lt c.args.one c.args.other c.requires.one_found c.requires.other_found ∙ with_rows_either_order c.args.row c.args.another lt rows;
+      count = c.enter_in_order.ensures.count;
     }
 
-pub returns-else-is-before : goal.returns-else-is-before
-returns-else-is-before c =
+pub returns-else-is_before : goal.returns-else-is_before
+returns-else-is_before c =
     let rows = positions_in c.args.self.now in
     let nlt : before c.args.row.key c.args.another.key ≡ false = search rules in
     let lt = other_before c.args.row.key c.args.another.key c.requires.different nlt in
     record {
-      rows = c.enter-in-order-else-is-before.ensures.rows ∙ placed_in_order rows c.requires.ascending c.args.another c.args.row lt c.args.other c.args.one c.requires.other_found c.requires.one_found;
-      count = omega (arith, c.enter-in-order-else-is-before.ensures.count);
+      rows = c.enter_in_order-else-is_before.ensures.rows ∙ placed_in_order rows c.requires.ascending c.args.another c.args.row lt c.args.other c.args.one c.requires.other_found c.requires.one_found;
+      count = omega (arith, c.enter_in_order-else-is_before.ensures.count);
     }

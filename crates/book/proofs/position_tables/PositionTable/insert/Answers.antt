@@ -6,6 +6,6 @@ pub returns : goal.returns
 returns c =
     let long : c.args.self.now.count < length c.args.self.now.rows = search rules in
     record {
-      rows = put_in_part c.args.self.now.rows c.args.self.now.count c.args.at c.args.row _ _ long c.requires.within c.insert-at.ensures.put;
+      rows = put_in_part c.args.self.now.rows c.args.self.now.count c.args.at c.args.row _ _ long c.requires.within c.insert_at.ensures.put;
       count = refl;
     }

@@ -11,28 +11,28 @@ use Rattle.book.proofs.Netted.{both_netted, row_capped, row_named, sound_size}
 use Rattle.book.proofs.RecordedTrades.{sides_differ}
 use Rattle.book.proofs.position_tables.PositionTable.net.Goals as goal
 
-pub row-or-fresh-requires : goal.row-or-fresh-requires
-row-or-fresh-requires c =
+pub row_or_fresh-requires : goal.row_or_fresh-requires
+row_or_fresh-requires c =
     record { few = c.requires.few; fits = subst (Fits c.args.buyer) c.requires.long (found_fits (positions_in c.args.self.now) c.requires.ascending _ c.args.buyer c.requires.buyer_found) }
 
 pub moved-bought-requires : goal.moved-bought-requires
 moved-bought-requires c =
     let rows = positions_in c.args.self.now in
-    let row = c.row_or_fresh.ensures ∙ ap (row_or_fresh rows c.args.buyer) c.buyer-key.ensures in
+    let row = c.row_or_fresh.ensures ∙ ap (row_or_fresh rows c.args.buyer) c.buyer_key.ensures in
     let f : SFits w64 c.args.deal.now.amount = search rules in
     record {
       net = subst (λ p. nat_abs p.net ≤ 2000000000) (sym row) (row_capped rows (buyer_of c.args.deal.now) c.args.buyer c.requires.capped c.requires.buyer_found);
       change = simp to_z-of_z (sound_size c.args.deal.now c.requires.sound).0;
     }
 
-pub row-or-fresh-requires-2 : goal.row-or-fresh-requires-2
-row-or-fresh-requires-2 c =
+pub row_or_fresh-requires-2 : goal.row_or_fresh-requires-2
+row_or_fresh-requires-2 c =
     record { few = c.requires.few; fits = subst (Fits c.args.seller) c.requires.long (found_fits (positions_in c.args.self.now) c.requires.ascending _ c.args.seller c.requires.seller_found) }
 
 pub moved-sold-requires : goal.moved-sold-requires
 moved-sold-requires c =
     let rows = positions_in c.args.self.now in
-    let row = c.row-or-fresh-2.ensures ∙ ap (row_or_fresh rows c.args.seller) c.seller-key.ensures in
+    let row = c.row_or_fresh-2.ensures ∙ ap (row_or_fresh rows c.args.seller) c.seller_key.ensures in
     let f : SFits w64 c.args.deal.now.amount = search rules in
     let size = (sound_size c.args.deal.now c.requires.sound).0 in
     record {
@@ -40,14 +40,14 @@ moved-sold-requires c =
       change = omega (arith, ints, size);
     }
 
-pub enter-both-requires : goal.enter-both-requires
-enter-both-requires c =
+pub enter_both-requires : goal.enter_both-requires
+enter_both-requires c =
     let deal = c.args.deal.now in
     let rows = positions_in c.args.self.now in
     let f : SFits w64 deal.amount = search rules in
     let paid : to_z w64 (of_z w64 (pos 0 -ℤ to_z w64 (of_z w64 deal.amount))) ≡ neg_ℤ deal.amount = omega (arith, ints, (sound_size deal c.requires.sound).0) in
-    let bought : c.moved-bought.result ≡ moved deal.amount (row_or_fresh rows c.args.buyer (buyer_of deal)) = c.moved-bought.ensures ∙ ap (λ z. moved z c.row_or_fresh.result) (to_z-of_z w64 deal.amount f) ∙ ap (moved deal.amount) (c.row_or_fresh.ensures ∙ ap (row_or_fresh rows c.args.buyer) c.buyer-key.ensures) in
-    let sold : c.moved-sold.result ≡ moved (neg_ℤ deal.amount) (row_or_fresh rows c.args.seller (seller_of deal)) = c.moved-sold.ensures ∙ ap (λ z. moved z c.row-or-fresh-2.result) paid ∙ ap (moved (neg_ℤ deal.amount)) (c.row-or-fresh-2.ensures ∙ ap (row_or_fresh rows c.args.seller) c.seller-key.ensures) in
+    let bought : c.moved-bought.result ≡ moved deal.amount (row_or_fresh rows c.args.buyer (buyer_of deal)) = c.moved-bought.ensures ∙ ap (λ z. moved z c.row_or_fresh.result) (to_z-of_z w64 deal.amount f) ∙ ap (moved deal.amount) (c.row_or_fresh.ensures ∙ ap (row_or_fresh rows c.args.buyer) c.buyer_key.ensures) in
+    let sold : c.moved-sold.result ≡ moved (neg_ℤ deal.amount) (row_or_fresh rows c.args.seller (seller_of deal)) = c.moved-sold.ensures ∙ ap (λ z. moved z c.row_or_fresh-2.result) paid ∙ ap (moved (neg_ℤ deal.amount)) (c.row_or_fresh-2.ensures ∙ ap (row_or_fresh rows c.args.seller) c.seller_key.ensures) in
     let first = ap (λ p. p.key) bought ∙ row_named rows (buyer_of deal) c.args.buyer c.requires.buyer_found in
     let second = ap (λ p. p.key) sold ∙ row_named rows (seller_of deal) c.args.seller c.requires.seller_found in
     record {
@@ -65,13 +65,13 @@ returns c =
     let rows = positions_in c.args.self.now in
     let f : SFits w64 deal.amount = search rules in
     let paid : to_z w64 (of_z w64 (pos 0 -ℤ to_z w64 (of_z w64 deal.amount))) ≡ neg_ℤ deal.amount = omega (arith, ints, (sound_size deal c.requires.sound).0) in
-    let bought : c.moved-bought.result ≡ moved deal.amount (row_or_fresh rows c.args.buyer (buyer_of deal)) = c.moved-bought.ensures ∙ ap (λ z. moved z c.row_or_fresh.result) (to_z-of_z w64 deal.amount f) ∙ ap (moved deal.amount) (c.row_or_fresh.ensures ∙ ap (row_or_fresh rows c.args.buyer) c.buyer-key.ensures) in
-    let sold : c.moved-sold.result ≡ moved (neg_ℤ deal.amount) (row_or_fresh rows c.args.seller (seller_of deal)) = c.moved-sold.ensures ∙ ap (λ z. moved z c.row-or-fresh-2.result) paid ∙ ap (moved (neg_ℤ deal.amount)) (c.row-or-fresh-2.ensures ∙ ap (row_or_fresh rows c.args.seller) c.seller-key.ensures) in
+    let bought : c.moved-bought.result ≡ moved deal.amount (row_or_fresh rows c.args.buyer (buyer_of deal)) = c.moved-bought.ensures ∙ ap (λ z. moved z c.row_or_fresh.result) (to_z-of_z w64 deal.amount f) ∙ ap (moved deal.amount) (c.row_or_fresh.ensures ∙ ap (row_or_fresh rows c.args.buyer) c.buyer_key.ensures) in
+    let sold : c.moved-sold.result ≡ moved (neg_ℤ deal.amount) (row_or_fresh rows c.args.seller (seller_of deal)) = c.moved-sold.ensures ∙ ap (λ z. moved z c.row_or_fresh-2.result) paid ∙ ap (moved (neg_ℤ deal.amount)) (c.row_or_fresh-2.ensures ∙ ap (row_or_fresh rows c.args.seller) c.seller_key.ensures) in
     record {
       rows =
-          c.enter-both.ensures.rows
+          c.enter_both.ensures.rows
           ∙ ap (λ p. with_row c.moved-sold.result (with_row p rows)) bought
           ∙ ap (λ p. with_row p (with_row (moved deal.amount (row_or_fresh rows c.args.buyer (buyer_of deal))) rows)) sold
           ∙ both_netted rows c.requires.ascending (buyer_of deal) (seller_of deal) deal.amount (neg_ℤ deal.amount) c.args.buyer c.args.seller c.requires.buyer_found c.requires.seller_found (sides_differ deal c.requires.sound);
-      count = c.enter-both.ensures.count;
+      count = c.enter_both.ensures.count;
     }
