@@ -1,5 +1,5 @@
 -- Rule 2's order picks the first of those with the largest remainder.
-use Rattle.std.specs.Prelude.{◌≡◌, ℕ, zero, suc, ◌+◌, ◌<◌, ◌≤◌, Bool, true, false, cond, List, [], ◌∷◌, length, IfSome as found, Some, None, Option, ◌≢◌, slice_index, slice_index_or, refl}
+use Rattle.std.specs.Prelude.{◌≡◌, ℕ, zero, suc, ◌+◌, ◌<◌, ◌≤◌, Bool, true, false, cond, List, [], ◌∷◌, length, IfSome, Some, None, Option, ◌≢◌, slice_index, slice_index_or, refl}
 use Rattle.std.proofs.Common.{⊎_elim, sym, ap, subst, ◌∙◌, add-zero, arith}
 use Rattle.std.proofs.lemmas.Bool.{and_from, and_parts, cases_lt, cond-false, cond-true, le-leb, le-ltb, leb-true, lt-ltb, not_from_false, not-true}
 use Rattle.std.specs.Option.{option_map}
@@ -134,7 +134,7 @@ nobody_waits t os held long e i w = go (strongest_from t 0 None os held) (top_of
     go None top f = omega (arith, top.most i w.seller, ap strength (waits_claim t os held 0 i w))
     go (Some c) top f = let z : ◌≡◌ {A = ℕ} 0 1 = cc in omega arith
 
-pub strongest_waits : (t : Terms) (os : List ℕ) (held : List Bool) (r : Option Claim) → length held ≡ length os → r ≡ strongest_from t 0 None os held → found r (λ c. Waits t os held c.seller)
+pub strongest_waits : (t : Terms) (os : List ℕ) (held : List Bool) (r : Option Claim) → length held ≡ length os → r ≡ strongest_from t 0 None os held → IfSome r (λ c. Waits t os held c.seller)
 strongest_waits t os held None long e = tt
 strongest_waits t os held (Some c) long e = (picked_at t os held c (subst (Top t 0 None os held) (sym e) (top_of t 0 None os held long))).waits
 

@@ -1,6 +1,6 @@
 -- Worked asks: what each rule answers, by the definitions that the rules' contracts cite.
 use Rattle.std.specs.Prelude.{ℕ, List, [], ◌∷◌, length, Some, None, Ok, Err, Option}
-use Rattle.std.specs.List.{AllByRecursion as All}
+use Rattle.std.specs.List.{AllByRecursion}
 use Rattle.refusals.specs.declared.Refusal.TheVariants.{UnsoundAsk}
 use Rattle.assignment.specs.Asks.{Answered, SoundAsk}
 use Rattle.assignment.specs.Choices.{chosen}
@@ -47,4 +47,4 @@ worked =
 
 -- Every worked case holds.
 abbrev pub WorkedHold : Type 0
-WorkedHold = All Holds worked
+WorkedHold = AllByRecursion Holds worked

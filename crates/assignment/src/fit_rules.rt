@@ -31,7 +31,7 @@ pub fn assign_by<R: FitRule>(
     open: &[u32],
     answer: &mut [u32],
 ) -> Result<(), Refusal>
-    ensures answered { Answered result (SoundAsk total block «open».now (length answer.old)) (meaning rule.now total block «open».now) answer.old answer.new }
+    ensures answered { Answered result (SoundAsk total block «open».now (length answer.old)) (R.meaning rule.now total block «open».now) answer.old answer.new }
     ensures fits { OnOk result (Fit total block «open».now answer.new) }
     ensures stays { rule.now ≡ rule.now }
 {

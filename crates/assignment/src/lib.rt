@@ -1,6 +1,7 @@
 // The assignment of an exercised total to sellers: what an ask is, the rules
 // that answer it, and what makes a rule fit.
 #![tactic(auto)]
+
 mod asks;
 mod block_shares;
 mod choices;

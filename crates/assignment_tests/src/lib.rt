@@ -1,5 +1,6 @@
 // The rules at the edges of a sound ask.
 #![tactic(auto)]
+
 #[cfg(test)]
 mod tests {
     use assignment::{Blocks, Choice, FitRule, Running};

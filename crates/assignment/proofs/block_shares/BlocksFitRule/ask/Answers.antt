@@ -11,15 +11,15 @@ use Rattle.assignment.proofs.block_shares.BlocksFitRule.ask.Goals as goal
 abbrev terms : ℕ → ℕ → ℕ → Terms
 terms total block all = record { total = total; block = block; all = all }
 
-pub give-blocks-rest-requires : goal.give-blocks-rest-requires
-give-blocks-rest-requires c =
+pub give_blocks-rest-requires : goal.give_blocks-rest-requires
+give_blocks-rest-requires c =
     let ok = c.in-Some.ensures in
     let t = terms c.args.total c.args.block c.in-Some.all in
     let os = c.args.open.now in
     let none = nobody_holds c.nobody-places.result (length os) c.nobody-places.ensures ok.0.sound.few in
     record {
       standing = subst (Standing t os) (sym none) (floors_stand t os (record { sound = ok.0.sound; all_is = ok.1 }));
-      written = start_written t os _ _ none c.write-floors-after-floors.ensures.written;
+      written = start_written t os _ _ none c.write_floors-after_floors.ensures.written;
     }
 
 pub returns : goal.returns
@@ -28,9 +28,9 @@ returns c =
     let t = terms c.args.total c.args.block c.in-Some.all in
     let os = c.args.open.now in
     let none = nobody_holds c.nobody-places.result (length os) c.nobody-places.ensures ok.0.sound.few in
-    let e = c.give-blocks-rest.ensures in
-    let rounds = rounded t os _ _ _ _ c.write-floors-after-floors.ensures.left none e.left e.held in
-    let is = c.give-rest.ensures
+    let e = c.give_blocks-rest.ensures in
+    let rounds = rounded t os _ _ _ _ c.write_floors-after_floors.ensures.left none e.left e.held in
+    let is = c.give_rest.ensures
     ∙ ap (λ (st : State). last_pass t st.left os st.held) rounds
     ∙ ap (λ sum. blocks_of by_remainder (terms c.args.total c.args.block sum) os) ok.1 in
     record {

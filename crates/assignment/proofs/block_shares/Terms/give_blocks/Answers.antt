@@ -6,10 +6,10 @@ use Rattle.assignment.proofs.block_shares.Terms.give_blocks.Goals as goal
 pub bounds-answer-next : goal.bounds-answer-next
 bounds-answer-next c = (block_given c.args.self c.args.open.now c.loop-left.held c.loop-left.answer c.in-Some.next.seller c.loop-left.invariant.0 c.loop-left.invariant.1 c.in-Some.ensures.waits).place
 
-pub overflow-add-answer : goal.overflow-add-answer
-overflow-add-answer c =
+pub overflow_add-answer : goal.overflow_add-answer
+overflow_add-answer c =
     let given = block_given c.args.self c.args.open.now c.loop-left.held c.loop-left.answer c.in-Some.next.seller c.loop-left.invariant.0 c.loop-left.invariant.1 c.in-Some.ensures.waits in
-    omega (arith, given.room, c.type-inv.open c.in-Some.next.seller)
+    omega (arith, given.room, c.type_inv.open c.in-Some.next.seller)
 
 pub bounds-answer-next-in-loop-left : goal.bounds-answer-next-in-loop-left
 bounds-answer-next-in-loop-left c = (block_given c.args.self c.args.open.now c.loop-left.held c.loop-left.answer c.in-Some.next.seller c.loop-left.invariant.0 c.loop-left.invariant.1 c.in-Some.ensures.waits).place
@@ -29,8 +29,8 @@ returns-after-loop-left c =
     let e = sym (rounds_short c.args.self c.args.open.now c.loop-left.held c.loop-left.left inv.0.long c.loop-left-test.false) ∙ inv.2 in
     record { left = ap (λ (st : State). st.left) e; held = ap (λ (st : State). st.held) e; standing = inv.0; written = inv.1 }
 
-pub returns-in-default : goal.returns-in-default
-returns-in-default c =
+pub returns-in_default : goal.returns-in_default
+returns-in_default c =
     let inv = c.loop-left.invariant in
-    let e = sym (rounds_unclaimed c.args.self c.args.open.now c.loop-left.held c.loop-left.left inv.0.long c.in-default.ensures.value) ∙ inv.2 in
+    let e = sym (rounds_unclaimed c.args.self c.args.open.now c.loop-left.held c.loop-left.left inv.0.long c.in_default.ensures.value) ∙ inv.2 in
     record { left = ap (λ (st : State). st.left) e; held = ap (λ (st : State). st.held) e; standing = inv.0; written = inv.1 }

@@ -6,7 +6,7 @@ use Rattle.assignment.specs.BlockDuties.{apt_of}
 use Rattle.assignment.specs.BlockOrder.{strongest_waits}
 use Rattle.assignment.specs.ListSteps.{at_drop_two}
 use Rattle.assignment.proofs.block_shares.Terms.strongest.Goals as goal
-use Rattle.assignment.proofs.block_shares.Terms.strongest.Goals.{in-Some, in-default}
+use Rattle.assignment.proofs.block_shares.Terms.strongest.Goals.{in-Some, in_default}
 
 pub loop-i-init : goal.loop-i-init
 loop-i-init c = refl
@@ -21,7 +21,7 @@ loop-i-preserved c =
     let held = c.args.held.now in
     let i = c.loop-i.i in
     let step : c.match-claim.best ≡ stronger c.loop-i.best c.claim.result =
-    elim c.match-claim.branch [ in-Some w ↦ grind (arith, nat_tests) | in-default w ↦ grind (arith, nat_tests) ] in
+    elim c.match-claim.branch [ in-Some w ↦ grind (arith, nat_tests) | in_default w ↦ grind (arith, nat_tests) ] in
     ap (λ b. strongest_from t (i + 1) b (drop (i + 1) os) (drop (i + 1) held)) (step ∙ ap (stronger c.loop-i.best) c.claim.ensures)
     ∙ sym (at_drop_two (strongest_from t i c.loop-i.best) os held i 0 false c.loop-i-test.true (omega (arith, c.requires.long)))
     ∙ c.loop-i.invariant

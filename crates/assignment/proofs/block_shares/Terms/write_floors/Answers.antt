@@ -12,8 +12,8 @@ loop-i-init c = (refl, refl)
 pub share-share-requires : goal.share-share-requires
 share-share-requires c = apt_of c.args.self c.args.open.now c.loop-i.i c.requires.terms c.loop-i-test.true
 
-pub overflow-sub-left : goal.overflow-sub-left
-overflow-sub-left c =
+pub overflow_sub-left : goal.overflow_sub-left
+overflow_sub-left c =
     let t = c.args.self in
     let os = c.args.open.now in
     let h = c.loop-i-test.true in

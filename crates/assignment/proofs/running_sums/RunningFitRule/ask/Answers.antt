@@ -14,25 +14,25 @@ loop-i-init c =
       ap (λ s. running_from c.args.total s 0 c.args.open.now) ok.1,
     )
 
-pub overflow-add-before : goal.overflow-add-before
-overflow-add-before c = omega (arith, sum_drop_more c.args.open.now c.loop-i.i c.loop-i-test.true, c.in-Some.ensures.0.sound.opens.capped)
+pub overflow_add-before : goal.overflow_add-before
+overflow_add-before c = omega (arith, sum_drop_more c.args.open.now c.loop-i.i c.loop-i-test.true, c.in-Some.ensures.0.sound.opens.capped)
 
-pub due-to-due-requires : goal.due-to-due-requires
-due-to-due-requires c =
+pub due_to-due-requires : goal.due_to-due-requires
+due_to-due-requires c =
     let ok = c.in-Some.ensures in
     omega (arith, get_or_le_sum c.args.open.now c.loop-i.i c.loop-i-test.true, ok.0.sound.opens.each_open c.loop-i.i c.loop-i-test.true, ok.1)
 
 -- what a turn pays, from what was due before it
-turn_of : (c : goal.After-due-to-due) → Turn c.args.total c.in-Some.sum c.loop-i.before (get_or c.args.open.now c.loop-i.i 0)
+turn_of : (c : goal.After-due_to-due) → Turn c.args.total c.in-Some.sum c.loop-i.before (get_or c.args.open.now c.loop-i.i 0)
 turn_of c =
     let ok = c.in-Some.ensures in
     turn c.args.total c.args.block c.args.open.now c.in-Some.sum c.loop-i.before c.loop-i.i ok.0.sound ok.1 c.loop-i-test.true
 
-pub overflow-sub-answer : goal.overflow-sub-answer
-overflow-sub-answer c = omega (arith, (turn_of c).grown, c.loop-i.invariant.1, c.due-to-due.ensures)
+pub overflow_sub-answer : goal.overflow_sub-answer
+overflow_sub-answer c = omega (arith, (turn_of c).grown, c.loop-i.invariant.1, c.due_to-due.ensures)
 
-pub overflow-cast-answer : goal.overflow-cast-answer
-overflow-cast-answer c = omega (arith, (turn_of c).most, c.type-inv.open c.loop-i.i, c.loop-i.invariant.1, c.due-to-due.ensures)
+pub overflow_cast-answer : goal.overflow_cast-answer
+overflow_cast-answer c = omega (arith, (turn_of c).most, c.type_inv.open c.loop-i.i, c.loop-i.invariant.1, c.due_to-due.ensures)
 
 pub loop-i-preserved : goal.loop-i-preserved
 loop-i-preserved c =
@@ -46,9 +46,9 @@ loop-i-preserved c =
     let rest = running_from c.args.total c.in-Some.sum (c.loop-i.before + get_or os i 0) (drop (i + 1) os) in
     let roomy = ok.0.roomy in (
       omega arith,
-      c.due-to-due.ensures,
-      written_more out rest _ i (c.due-to-due.result - c.loop-i.paid) (omega arith) (
-          ap (λ n. take i out ++ ((n - c.loop-i.paid) ∷ rest)) c.due-to-due.ensures
+      c.due_to-due.ensures,
+      written_more out rest _ i (c.due_to-due.result - c.loop-i.paid) (omega arith) (
+          ap (λ n. take i out ++ ((n - c.loop-i.paid) ∷ rest)) c.due_to-due.ensures
           ∙ ap (λ n. take i out ++ ((due - n) ∷ rest)) c.loop-i.invariant.1
           ∙ sym (ap (λ ys. take i out ++ ys) (at_drop_more (running_from c.args.total c.in-Some.sum c.loop-i.before) os i 0 h))
           ∙ c.loop-i.invariant.2
