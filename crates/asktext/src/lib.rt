@@ -1,5 +1,6 @@
 // Reads one line of text that holds an ask.
 #![tactic(auto)]
+
 ghost use Rattle.std.specs.Prelude.{◌≡◌, ◌<◌, ◌∷◌, length, IfSome, IfOk, Some};
 ghost use Rattle.asktext.specs.Format.{all_space, answer_says, is_comment, is_space, line_says, numbers_say, without_return, words};
 ghost use Rattle.asktext.specs.Parts.{FirstBlank, Numbered, grown_by, later_words, number_of_word};
@@ -227,7 +228,7 @@ mod tests {
             return Err(Fail::new("no ask"));
         };
         assert_eq!(rt; (ask.rule, ask.total, ask.block), (2, 30, 5));
-        assert!(rt; ask.open.as_slice() == [7, 0, 4_294_967_295]);
+        assert!(rt; ask.open.as_slice() == [7, 0, 4_294_967_295].as_slice());
         Ok(())
     }
 

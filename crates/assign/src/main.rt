@@ -1,5 +1,6 @@
 // Reads asks, one to a line, and prints the steps by which each is assigned.
 #![tactic(auto)]
+
 mod report;
 mod steps;
 

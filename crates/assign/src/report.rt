@@ -101,7 +101,7 @@ fn amounts<R: FitRule>(
     rule: &R,
     ask: &AskLine,
 ) -> Result<Result<Vec<u32>, Refusal>, AllocError>
-    ensures { IfOk result (λ a. Assigned a ask.now.total ask.now.block ask.now.«open».items (meaning rule.now ask.now.total ask.now.block ask.now.«open».items)) }
+    ensures { IfOk result (λ a. Assigned a ask.now.total ask.now.block ask.now.«open».items (R.meaning rule.now ask.now.total ask.now.block ask.now.«open».items)) }
 {
     let open = ask.open.as_slice();
     let mut amounts = vec![in heap; 0; open.len()]?;

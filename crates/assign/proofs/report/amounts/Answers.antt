@@ -13,12 +13,12 @@ returns-in-Ok g c =
     let total = c.args.ask.now.total in
     let block = c.args.ask.now.block in
     let os = vec_items c.args.ask.now.open in
-    let answer = c.assign-by.new.answer in
-    let same = c.as-slice-open.ensures.value in
+    let answer = c.assign_by.new.answer in
+    let same = c.as_slice-open.ensures.value in
     let e = c.in-Ok.ensures in
-    let places = c.as-mut-slice.ensures.len in
+    let places = c.as_mut_slice.ensures.len in
     let long = e.fits.long in
     let roomy = e.answered.0.roomy in
-    let n = c.in-ok-amounts.amounts.len in
+    let n = c.in_ok-amounts.amounts.len in
     let kept : length answer ≡ n = omega (arith, long, roomy, places) in
-    moved (g.R.FitRule.meaning c.args.rule.now total block) total block (length c.as-mut-slice.result.now) c.as-slice-open.result.now os answer _ same (roomy ∙ ap length same) (take_at answer (drop (length answer) c.in-ok-amounts.amounts.items) n kept) e.answered.0 e.answered.1 e.fits
+    moved (g.R.FitRule.meaning c.args.rule.now total block) total block (length c.as_mut_slice.result.now) c.as_slice-open.result.now os answer _ same (roomy ∙ ap length same) (take_at answer (drop (length answer) c.in_ok-amounts.amounts.items) n kept) e.answered.0 e.answered.1 e.fits

@@ -7,7 +7,7 @@ pub returns : goal.returns
 returns c =
     let ask = c.args.ask.now in
     let first = string_bytes c.write.new.self in
-    put_row (string_bytes c.args.text.now) first (string_bytes c.put-numbers.new.text) (string_bytes c.writeln.new.self) (terms_shown c.args.place ask.rule ask.total ask.block) (numbers_shown (vec_items ask.«open»)) newline
-    c.in-ok-write.ensures.bytes
-    (c.in-ok-put-numbers.ensures ∙ ap (λ ns. first ++ numbers_shown ns) c.as-slice.ensures.value)
-    c.in-ok-writeln.ensures.bytes
+    put_row (string_bytes c.args.text.now) first (string_bytes c.put_numbers.new.text) (string_bytes c.writeln.new.self) (terms_shown c.args.place ask.rule ask.total ask.block) (numbers_shown (vec_items ask.«open»)) newline
+    c.in_ok-write.ensures.bytes
+    (c.in_ok-put_numbers.ensures ∙ ap (λ ns. first ++ numbers_shown ns) c.as_slice.ensures.value)
+    c.in_ok-writeln.ensures.bytes

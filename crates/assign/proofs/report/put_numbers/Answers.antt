@@ -5,7 +5,7 @@ use Rattle.assign.proofs.report.put_numbers.Goals as goal
 
 pub loop-n-preserved : goal.loop-n-preserved
 loop-n-preserved c =
-    put_more _ _ _ _ _ _ c.in-ok-write.ensures.bytes (at_drop_more numbers_shown c.args.numbers.now c.loop-n.n-index 0 c.loop-n-test.true) c.loop-n.invariant
+    put_more _ _ _ _ _ _ c.in_ok-write.ensures.bytes (at_drop_more numbers_shown c.args.numbers.now c.loop-n.n-index 0 c.loop-n-test.true) c.loop-n.invariant
 
 pub returns : goal.returns
 returns c =

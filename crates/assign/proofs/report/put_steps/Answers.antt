@@ -14,7 +14,7 @@ new-step-requires c =
 pub loop-i-preserved : goal.loop-i-preserved
 loop-i-preserved c =
     let i = c.loop-i.i in
-    put_more _ _ _ _ _ _ c.in-ok-writeln.ensures.bytes
+    put_more _ _ _ _ _ _ c.in_ok-writeln.ensures.bytes
     (at_drop_two (steps_shown c.args.total c.args.sum (i + 1)) c.args.open.now c.args.amounts.now i 0 0 c.loop-i-test.true (omega (arith, c.requires.long)) ∙ ap (λ s. (step_shown s ++ newline) ++ steps_shown c.args.total c.args.sum (i + 1 + 1) (drop (i + 1) c.args.open.now) (drop (i + 1) c.args.amounts.now)) (sym c.new-step.ensures))
     c.loop-i.invariant
 
