@@ -5,7 +5,7 @@ use native.Mathlib.Bridge.{le_prop}
 use Rattle.std.proofs.ByRecursion.{All-from_get_or, All-get_or}
 use Rattle.std.proofs.lemmas.List.{get_or_default, get_or-map, get_or-set_other, get_or-set_same, get_or-take, length-map, length-set, length-take, length-take-le, same_lists}
 use Rattle.std.proofs.lemmas.Bool.{cases_order, cond-false, cond-true, eq-eqb, ltb-true, ne_eqb}
-use Rattle.std.specs.List.{AllByRecursion as All}
+use Rattle.std.specs.List.{AllByRecursion}
 use Rattle.refusals.specs.declared.Refusal.TheVariants.{InvalidTerms, NotListed}
 use Rattle.tables.specs.Finding.{Ascending, Found}
 use Rattle.tally.proofs.Acceptances.{Traded, accepted_trade}
@@ -58,7 +58,7 @@ module _ (rows : List Swaption) (asc : Ascending (λ s. s.terms.number) ltb rows
       (cases_order m i))
 
 -- a row anywhere among fair ones is fair, and so is a blank one past their end
-fair_anywhere : (rows : List Position) → All Fair rows → (i : ℕ) → Fair (get_or rows i blank)
+fair_anywhere : (rows : List Position) → AllByRecursion Fair rows → (i : ℕ) → Fair (get_or rows i blank)
 fair_anywhere [] a i = (omega arith, omega arith)
 fair_anywhere (x ∷ rows) a zero = a.0
 fair_anywhere (x ∷ rows) a (suc i) = fair_anywhere rows a.1 i
@@ -76,7 +76,7 @@ module _ (book : Book) (deal : Deal) where
   pub positions_up : Ascending (λ p. p.key) before P
   positions_up = led_positions_ascend book.swaptions book.positions book.latest book.led
 
-  pub positions_capped : All (λ p. nat_abs p.net ≤ 2000000000) P
+  pub positions_capped : AllByRecursion (λ p. nat_abs p.net ≤ 2000000000) P
   positions_capped =
       All-from_get_or (λ p. nat_abs p.net ≤ 2000000000) P blank
       (λ i h. ∥∥₁_elim book.led le_prop (λ x. All-get_or (λ p. nat_abs p.net ≤ 2000000000) P i blank h (nets_capped x.0 book.swaptions book.positions book.latest deal x.1)))
@@ -128,11 +128,11 @@ module _ (book : Book) (deal : Deal) where
       pub led_by_trade : Led new_swaptions new_positions deal.moment
       led_by_trade = ∥∥₁_map book.led (λ x. (traded deal ∷ x.0, trade_recorded x.0 book.swaptions book.positions book.latest deal x.1 j.says new_swaptions new_positions s p))
 
-      was_fair : All Fair P
+      was_fair : AllByRecursion Fair P
       was_fair = All-from_get_or Fair P blank (λ i h. let inside : i < book.positions.count = omega (arith, positions_long size) in subst Fair (sym (get_or-take book.positions.count book.positions.rows i blank inside)) (book.fair i inside))
 
-      fair_after : All Fair (traded_positions deal P) → (i : ℕ) → i < new_positions.count → Fair (get_or new_positions.rows i blank)
-      fair_after t i h = subst Fair (get_or-take new_positions.count new_positions.rows i blank h) (fair_anywhere (positions_in new_positions) (subst (All Fair) (sym p) t) i)
+      fair_after : AllByRecursion Fair (traded_positions deal P) → (i : ℕ) → i < new_positions.count → Fair (get_or new_positions.rows i blank)
+      fair_after t i h = subst Fair (get_or-take new_positions.count new_positions.rows i blank h) (fair_anywhere (positions_in new_positions) (subst (AllByRecursion Fair) (sym p) t) i)
 
       pub fair_by_trade : AllFair new_positions.rows new_positions.count
       fair_by_trade i h = (

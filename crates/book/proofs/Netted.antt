@@ -3,7 +3,7 @@ use Rattle.std.proofs.Common.{◌≡◌, ℕ, ◌≤◌, true, false, not, List,
 use lib.Signed.{le_z}
 use Rattle.std.proofs.ByRecursion.{All-get_or}
 use Rattle.std.proofs.lemmas.Bool.{and_parts, both_ways, leb-true}
-use Rattle.std.specs.List.{AllByRecursion as All}
+use Rattle.std.specs.List.{AllByRecursion}
 use Rattle.tables.proofs.EitherOrder.{entered_commute}
 use Rattle.tables.proofs.Entries.{entered_found, entered_missing}
 use Rattle.tables.specs.Finding.{Ascending, Found}
@@ -21,7 +21,7 @@ pub row_named : (rows : List Position) (k : PositionKey) (r : Result ℕ ℕ) �
 row_named rows k (Ok i) f = f.1 (fresh k)
 row_named rows k (Err i) f = refl
 
-pub row_capped : (rows : List Position) (k : PositionKey) (r : Result ℕ ℕ) → All (λ p. nat_abs p.net ≤ 2000000000) rows → Found (λ p. p.key) before rows k r → nat_abs (row_or_fresh rows r k).net ≤ 2000000000
+pub row_capped : (rows : List Position) (k : PositionKey) (r : Result ℕ ℕ) → AllByRecursion (λ p. nat_abs p.net ≤ 2000000000) rows → Found (λ p. p.key) before rows k r → nat_abs (row_or_fresh rows r k).net ≤ 2000000000
 row_capped rows k (Ok i) all f = All-get_or (λ p. nat_abs p.net ≤ 2000000000) rows i (fresh k) f.0 all
 row_capped rows k (Err i) all f = omega arith
 

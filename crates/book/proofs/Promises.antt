@@ -3,7 +3,7 @@ use Rattle.std.proofs.Common.{◌≡◌, ℕ, ◌≤◌, true, false, List, [], 
 use Rattle.std.proofs.ByRecursion.{All-map}
 use Rattle.std.proofs.lemmas.Bool.{cases_Bool, cond-false, cond-true, or_right}
 use Rattle.std.specs.Option.{option_map}
-use Rattle.std.specs.List.{AllByRecursion as All}
+use Rattle.std.specs.List.{AllByRecursion}
 use Rattle.tally.proofs.Bounds.{bound_rises_with_trade, recorded_bound}
 use Rattle.tally.specs.Orders.{among_with_key, same_means_equal}
 use Rattle.tally.specs.Deals.{buyer_of, seller_of}
@@ -28,12 +28,12 @@ use Rattle.book.specs.Rows.{bound_of, traded_positions, traded_swaptions}
 use Rattle.book.specs.declared.books.Book.{Book}
 
 -- ---- bound amounts of a book that records a history
-bound_recorded : (t : History) (book : Book) → Records t book → All (λ p. bound_of p ≡ bound_amount t p.key) (positions_in book.positions)
+bound_recorded : (t : History) (book : Book) → Records t book → AllByRecursion (λ p. bound_of p ≡ bound_amount t p.key) (positions_in book.positions)
 bound_recorded t book h =
-    subst (All (λ p. bound_of p ≡ bound_amount t p.key)) (sym h.netted)
+    subst (AllByRecursion (λ p. bound_of p ≡ bound_amount t p.key)) (sym h.netted)
     (All-map (λ p. bound_of p ≡ bound_amount t p.key) (position_of t) (position_keys t) (each (position_keys t)))
   where
-    each : (keys : List PositionKey) → All (λ k. bound_of (position_of t k) ≡ bound_amount t k) keys
+    each : (keys : List PositionKey) → AllByRecursion (λ k. bound_of (position_of t k) ≡ bound_amount t k) keys
     each [] = tt
     each (k ∷ keys) = (recorded_bound t k, each keys)
 

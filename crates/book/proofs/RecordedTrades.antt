@@ -4,7 +4,7 @@ use Rattle.std.proofs.ByRecursion.{All-from_get_or, All-map, All-weaker}
 use Rattle.std.proofs.lemmas.Int.{ints}
 use Rattle.std.proofs.lemmas.Bool.{and_parts, cases_Bool, cond_both, cond-true, cond-false, eq-eqb, eqb-true, not-true, or_parts}
 use Rattle.std.proofs.lemmas.Bool.Decides.{nat_tests}
-use Rattle.std.specs.List.{AllByRecursion as All}
+use Rattle.std.specs.List.{AllByRecursion}
 use Rattle.tables.proofs.Comparisons.{by_order}
 use Rattle.tables.proofs.Entries.{all_entered, ascending_entered, entered_before, entered_here, entered_past}
 use Rattle.tables.specs.Finding.{Ascending}
@@ -37,16 +37,16 @@ ascending_rest : (x : PositionKey) (keys : List PositionKey) → Ascending (λ j
 ascending_rest x keys asc i j d lt in' = asc (suc i) (suc j) d (omega arith) (omega arith)
 
 -- those after a key stand after whatever does not stand after it
-rest_above : (k x : PositionKey) (keys : List PositionKey) → Ascending (λ j. j) before (x ∷ keys) → ((j : PositionKey) → before x j ≡ true → before k j ≡ true) → All (λ j. before k j ≡ true) keys
+rest_above : (k x : PositionKey) (keys : List PositionKey) → Ascending (λ j. j) before (x ∷ keys) → ((j : PositionKey) → before x j ≡ true → before k j ≡ true) → AllByRecursion (λ j. before k j ≡ true) keys
 rest_above k x keys asc up = All-from_get_or (λ j. before k j ≡ true) keys x (λ i h. up (get_or keys i x) (asc 0 (suc i) x (omega arith) (omega arith)))
 
-all_above_not_among : (k : PositionKey) (keys : List PositionKey) → All (λ j. before k j ≡ true) keys → is_among k keys ≡ false
+all_above_not_among : (k : PositionKey) (keys : List PositionKey) → AllByRecursion (λ j. before k j ≡ true) keys → is_among k keys ≡ false
 all_above_not_among k [] a = refl
 all_above_not_among k (j ∷ keys) a = cond-false (same_key j k) true (is_among k keys) (after_differs j k a.0) ∙ all_above_not_among k keys a.1
 
 -- ---- the rows of keys, with the net of one changed
 module _ (f g : PositionKey → Position) (k : PositionKey) (change : ℤ) (named : (j : PositionKey) → (f j).key ≡ j) (others : (j : PositionKey) → same_key k j ≡ false → g j ≡ f j) (here : g k ≡ moved change (f k)) where
-  rows_above : (keys : List PositionKey) → All (λ j. before k j ≡ true) keys → map g keys ≡ map f keys
+  rows_above : (keys : List PositionKey) → AllByRecursion (λ j. before k j ≡ true) keys → map g keys ≡ map f keys
   rows_above [] a = refl
   rows_above (j ∷ keys) a = ap (λ row. row ∷ map g keys) (others j (before_differs k j a.0)) ∙ ap (λ rows. f j ∷ rows) (rows_above keys a.1)
 
@@ -55,7 +55,7 @@ module _ (f g : PositionKey → Position) (k : PositionKey) (change : ℤ) (name
   rows_netted (x ∷ keys) asc new =
       by_order before before_one k x
       (λ (under : before k x ≡ true).
-      let above : All (λ j. before k j ≡ true) (x ∷ keys) = (under, rest_above k x keys asc (λ j up. before_transitive k x j under up)) in
+      let above : AllByRecursion (λ j. before k j ≡ true) (x ∷ keys) = (under, rest_above k x keys asc (λ j up. before_transitive k x j under up)) in
       ap (map g) (entered_before (λ j. j) before before_one k (λ j. j) k x keys under)
       ∙ ap (λ row. row ∷ map g (x ∷ keys)) (here ∙ ap (moved change) (new (all_above_not_among k (x ∷ keys) above)))
       ∙ ap (λ rows. moved change (fresh k) ∷ rows) (rows_above (x ∷ keys) above)
@@ -200,24 +200,24 @@ module _ (t : History) (swaptions : SwaptionTable) (positions : PositionTable) (
     fair_still : (k : PositionKey) → Fair (position_of t k) → Fair (position_of (traded deal ∷ t) k)
     fair_still k f = ⊎_elim (λ (e : eqb deal.swaption k.swaption ≡ true). fair_in_trade k e) (λ (e : eqb deal.swaption k.swaption ≡ false). fair_elsewhere k e f) (cases_Bool (eqb deal.swaption k.swaption))
 
-    pub trade_fair : All Fair (positions_in positions) → All Fair (traded_positions deal (positions_in positions))
+    pub trade_fair : AllByRecursion Fair (positions_in positions) → AllByRecursion Fair (traded_positions deal (positions_in positions))
     trade_fair fair =
-        subst (All Fair) (sym positions_after)
+        subst (AllByRecursion Fair) (sym positions_after)
         (All-map Fair (position_of (traded deal ∷ t)) (position_keys (traded deal ∷ t))
         (all_entered (λ k. Fair (position_of (traded deal ∷ t) k)) (λ j. j) before (seller_of deal) (λ j. j) (seller_of deal) (fair_in_trade (seller_of deal) same_number) (λ x f. f) (with_key (buyer_of deal) (position_keys t))
         (all_entered (λ k. Fair (position_of (traded deal ∷ t) k)) (λ j. j) before (buyer_of deal) (λ j. j) (buyer_of deal) (fair_in_trade (buyer_of deal) same_number) (λ x f. f) (position_keys t)
-        (All-weaker (λ k. Fair (position_of t k)) (λ k. Fair (position_of (traded deal ∷ t) k)) fair_still (position_keys t) (all_unmap (position_of t) (position_keys t) (subst (All Fair) h.netted fair))))))
+        (All-weaker (λ k. Fair (position_of t k)) (λ k. Fair (position_of (traded deal ∷ t) k)) fair_still (position_keys t) (all_unmap (position_of t) (position_keys t) (subst (AllByRecursion Fair) h.netted fair))))))
       where
-        all_unmap : (f : PositionKey → Position) (keys : List PositionKey) → All Fair (map f keys) → All (λ k. Fair (f k)) keys
+        all_unmap : (f : PositionKey → Position) (keys : List PositionKey) → AllByRecursion Fair (map f keys) → AllByRecursion (λ k. Fair (f k)) keys
         all_unmap f [] a = tt
         all_unmap f (k ∷ keys) a = (a.0, all_unmap f keys a.1)
 
   -- no net passes 2,000,000,000
-  pub nets_capped : All (λ p. nat_abs p.net ≤ 2000000000) (positions_in positions)
+  pub nets_capped : AllByRecursion (λ p. nat_abs p.net ≤ 2000000000) (positions_in positions)
   nets_capped =
-      subst (All (λ p. nat_abs p.net ≤ 2000000000)) (sym h.netted)
+      subst (AllByRecursion (λ p. nat_abs p.net ≤ 2000000000)) (sym h.netted)
       (All-map (λ p. nat_abs p.net ≤ 2000000000) (position_of t) (position_keys t) (all_of (position_keys t)))
     where
-      all_of : (keys : List PositionKey) → All (λ k. nat_abs (net_of t k) ≤ 2000000000) keys
+      all_of : (keys : List PositionKey) → AllByRecursion (λ k. nat_abs (net_of t k) ≤ 2000000000) keys
       all_of [] = tt
       all_of (k ∷ keys) = (omega (arith, net_within t k, traded_capped t k.swaption h.kept), all_of keys)

@@ -1,6 +1,6 @@
 -- What is promised of every call and of every list of calls, in the tally's words.
 use Rattle.std.specs.Prelude.{◌≡◌, ℕ, ◌≤◌, Bool, true, false, cond, List, [], ◌∷◌, Some, None, Option}
-use Rattle.std.specs.List.{AllByRecursion as All}
+use Rattle.std.specs.List.{AllByRecursion}
 use Rattle.tally.specs.History.{History, bound_amount}
 use Rattle.tally.specs.Keys.{same_key}
 use Rattle.tally.specs.Table.{Answer}
@@ -49,7 +49,7 @@ module _ {R : Type 0} (w : World R) where
   pub record Told (t : History) (call : Call R) (r : Option Answer) (old new : Book) : Type 0 where
     pub answered : r ≡ said t call
     pub recorded : Records (next t call) new
-    pub bound : All (λ p. bound_of p ≡ bound_amount (next t call) p.key) (positions_in new.positions)
+    pub bound : AllByRecursion (λ p. bound_of p ≡ bound_amount (next t call) p.key) (positions_in new.positions)
     pub rises : (k : PositionKey) → bound_at k (positions_in old.positions) ≤ bound_at k (positions_in new.positions)
 
   -- The history after each call of a list in turn.

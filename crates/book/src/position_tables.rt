@@ -1,6 +1,6 @@
 // The positions of a book, in the order of their keys.
 ghost use Rattle.std.specs.Prelude.{◌≡◌, ◌+◌, ◌<◌, ◌≤◌, true, false, length, slice_set, unsigned_abs};
-ghost use Rattle.std.specs.List.{insert, AllByRecursion as All};
+ghost use Rattle.std.specs.List.{insert, AllByRecursion};
 ghost use Rattle.tables.specs.Finding.{Ascending, Found};
 ghost use Rattle.tally.specs.Deals.{buyer_of, seller_of, sound_deal};
 ghost use Rattle.tally.specs.Keys.{before, same_key};
@@ -170,7 +170,7 @@ impl PositionTable {
         requires buyer_found { Found (λ p. p.key) before (positions_in self.old) (buyer_of deal.now) buyer }
         requires seller_found { Found (λ p. p.key) before (positions_in self.old) (seller_of deal.now) seller }
         requires sound { sound_deal deal.now ≡ true }
-        requires capped { All (λ p. unsigned_abs p.net ≤ 2000000000) (positions_in self.old) }
+        requires capped { AllByRecursion (λ p. unsigned_abs p.net ≤ 2000000000) (positions_in self.old) }
         requires room { self.old.count + missing_at buyer + missing_at seller ≤ 256 }
         ensures rows { positions_in self.new ≡ traded_positions deal.now (positions_in self.old) }
         ensures count { self.new.count ≡ self.old.count + missing_at buyer + missing_at seller }

@@ -1,6 +1,6 @@
 -- Worked values, by the definitions that the contracts cite.
 use Rattle.std.specs.Prelude.{◌≡◌, ℕ, Bool, true, false, List, [], ◌∷◌, ℤ, pos}
-use Rattle.std.specs.List.{AllByRecursion as All}
+use Rattle.std.specs.List.{AllByRecursion}
 use Rattle.prices.specs.Values.{in_the_money, value}
 use Rattle.prices.specs.declared.payoffs.Kind.TheVariants.{Payer}
 use Rattle.prices.specs.declared.payoffs.Payoff.{Payoff}
@@ -30,4 +30,4 @@ worked =
 
 -- Every worked case holds.
 abbrev pub WorkedHold : Type 0
-WorkedHold = All Holds worked
+WorkedHold = AllByRecursion Holds worked

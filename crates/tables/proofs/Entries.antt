@@ -1,6 +1,6 @@
 -- What `entered` is at the place that a search finds, and that the keys ascend after it.
 use Rattle.std.proofs.Common.{◌≡◌, ℕ, zero, suc, ◌<◌, ◌≤◌, Bool, true, List, [], ◌∷◌, length, get_or, set, Ok, Err, sym, refl, ap, ◌∙◌, subst, arith}
-use Rattle.std.specs.List.{insert, AllByRecursion as All}
+use Rattle.std.specs.List.{insert, AllByRecursion}
 use Rattle.std.proofs.lemmas.Bool.{cond-true, cond-false, cond_both}
 use Rattle.tables.specs.Entering.{entered}
 use Rattle.tables.specs.Finding.{Ascending, Below, Above, Found}
@@ -47,11 +47,11 @@ module _ {X K : Type 0} (key : X → K) (less : K → K → Bool) (one : Trichot
     entered_missing i f = let g = f.1 (ascending_in_order key less one rows asc) in entered_between rows i f.0 g.0 g.1
 
 -- what holds of each row holds of each after an entry
-pub all_entered : {X K : Type 0} (P : X → Type 0) (key : X → K) (less : K → K → Bool) (k : K) (change : X → X) (new : X) → P new → ((x : X) → P x → P (change x)) → (rows : List X) → All P rows → All P (entered key less k change new rows)
+pub all_entered : {X K : Type 0} (P : X → Type 0) (key : X → K) (less : K → K → Bool) (k : K) (change : X → X) (new : X) → P new → ((x : X) → P x → P (change x)) → (rows : List X) → AllByRecursion P rows → AllByRecursion P (entered key less k change new rows)
 all_entered P key less k change new n c [] a = (n, tt)
 all_entered P key less k change new n c (x ∷ xs) a =
-    cond_both (less k (key x)) _ _ (All P) (λ _. (n, a))
-    (λ _. cond_both (less (key x) k) _ _ (All P) (λ _. (a.0, all_entered P key less k change new n c xs a.1)) (λ _. (c x a.0, a.1)))
+    cond_both (less k (key x)) _ _ (AllByRecursion P) (λ _. (n, a))
+    (λ _. cond_both (less (key x) k) _ _ (AllByRecursion P) (λ _. (a.0, all_entered P key less k change new n c xs a.1)) (λ _. (c x a.0, a.1)))
 
 -- the keys ascend after an entry
 module _ {X K : Type 0} (key : X → K) (less : K → K → Bool) (trans : Transitive less) (k : K) (change : X → X) (new : X) (named : key new ≡ k) (keeps : (x : X) → key (change x) ≡ key x) where

@@ -2,7 +2,7 @@
 use Rattle.std.proofs.Common.{◌≡◌, ℕ, ◌<◌, ◌≤◌, true, false, cond, eqb, ltb, List, [], ◌∷◌, length, is_some, Some, None, sym, refl, ap, ◌∙◌, subst, ⊎_elim, arith}
 use Rattle.std.proofs.lemmas.Bool.{cases_Bool, cond_both, cond-true, cond-false, eq-eqb, ltb-false}
 use Rattle.std.proofs.lemmas.Bool.Decides.{nat_tests}
-use Rattle.std.specs.List.{AllByRecursion as All}
+use Rattle.std.specs.List.{AllByRecursion}
 use Rattle.tables.proofs.Entries.{all_entered}
 use Rattle.tables.specs.Entering.{entered}
 use Rattle.tally.specs.History.{History, listed, traded, proposed, preliminary, withdrawn, noticed, failed, assigned, listed_terms, terms_with, terms_in}
@@ -34,7 +34,7 @@ terms_new terms (x ∷ xs) =
     (λ not_more. ap is_some (cond-true (eqb x.number terms.number) (Some x) _ (eq-eqb x.number terms.number (omega (arith, ltb-false terms.number x.number not_less, ltb-false x.number terms.number not_more))))))
 
 -- what holds of all terms holds of those found
-pub holds_of_found : (P : Terms → Type 0) (n : ℕ) (all : List Terms) (terms : Terms) → All P all → terms_with n all ≡ Some terms → P terms
+pub holds_of_found : (P : Terms → Type 0) (n : ℕ) (all : List Terms) (terms : Terms) → AllByRecursion P all → terms_with n all ≡ Some terms → P terms
 holds_of_found P n [] terms a e = let z : ◌≡◌ {A = ℕ} 0 1 = cc in absurd (omega arith)
 holds_of_found P n (x ∷ xs) terms a e =
     ⊎_elim
@@ -43,7 +43,7 @@ holds_of_found P n (x ∷ xs) terms a e =
     (cases_Bool (eqb x.number n))
 
 -- the listed terms are sound
-pub all_sound : (t : History) → Kept t → All (λ terms. sound_terms terms ≡ true) (listed_terms t)
+pub all_sound : (t : History) → Kept t → AllByRecursion (λ terms. sound_terms terms ≡ true) (listed_terms t)
 all_sound [] h = tt
 all_sound (listed terms ∷ t) h =
     let o = accepted_list terms (is_listed terms.number (listed_terms t)) (length (listed_terms t)) h.1 in
