@@ -166,7 +166,7 @@ impl FitRule for Blocks {
 
     fn ask(&self, total: u32, block: u32, open: &[u32], answer: &mut [u32]) -> Result<(), Refusal>
         ensures answered { Answered result (SoundAsk total block «open».now (length answer.old)) (blocks total block «open».now) answer.old answer.new }
-        ensures stays { self.now ≡ self.now }
+        ensures stays { self.exit.now ≡ self.entry.now }
         ensures blockwise { OnOk result (Blockwise total block «open».now answer.new) }
     {
         let Some(all) = sound_sum(total, block, open, answer.len()) else {

@@ -12,7 +12,7 @@ pub trait FitRule {
     // Writes the amounts of a sound ask to the answer list; refuses any other.
     fn ask(&self, total: u32, block: u32, open: &[u32], answer: &mut [u32]) -> Result<(), Refusal>
         ensures answered { Answered result (SoundAsk total block «open».now (length answer.old)) (meaning self.now total block «open».now) answer.old answer.new }
-        ensures stays { self.now ≡ self.now };
+        ensures stays { self.exit.now ≡ self.entry.now };
 
     // The duties, for every sound ask. The same ask always has the same amounts, since they are a function of it.
     ghost fit: { (rule : Self) (total block : ℕ) (positions : List ℕ) → Sound total block positions → Fit total block positions (meaning rule total block positions) };
@@ -33,7 +33,7 @@ pub fn assign_by<R: FitRule>(
 ) -> Result<(), Refusal>
     ensures answered { Answered result (SoundAsk total block «open».now (length answer.old)) (R.meaning rule.now total block «open».now) answer.old answer.new }
     ensures fits { OnOk result (Fit total block «open».now answer.new) }
-    ensures stays { rule.now ≡ rule.now }
+    ensures stays { rule.exit.now ≡ rule.entry.now }
 {
     rule.ask(total, block, open, answer)
 }

@@ -67,7 +67,7 @@ impl PriceSource for Marks {
     // The price, which is that of a mark of the index.
     fn price(&self, index: u16, _moment: u32) -> Option<u32>
         ensures answered { result ≡ marked self.now.rows.items index }
-        ensures stays { self.now ≡ self.now }
+        ensures stays { self.exit.now ≡ self.entry.now }
         ensures held { IfSome result (Priced (of_index index) (λ mark. mark.price) self.now.rows.items) }
     {
         match find(self.rows.as_slice(), &index) {

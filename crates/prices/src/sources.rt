@@ -10,7 +10,7 @@ pub trait PriceSource {
     // The price of an index at a moment, if there is one.
     fn price(&self, index: u16, moment: u32) -> Option<u32>
         ensures answered { result ≡ quoted self.now index moment }
-        ensures stays { self.now ≡ self.now };
+        ensures stays { self.exit.now ≡ self.entry.now };
 
     // No price is above the highest.
     ghost in_range: { (s : Self) (i m p : ℕ) → quoted s i m ≡ Just p → p ≤ highest_price };
