@@ -1,5 +1,6 @@
 // The book at the edges of what it takes.
 #![tactic(auto)]
+
 #[cfg(test)]
 mod checks;
 #[cfg(test)]

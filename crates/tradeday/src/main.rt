@@ -1,6 +1,7 @@
 // A short day of lists and trades: each call with its answer, then the
 // positions.
 #![tactic(auto)]
+
 mod day;
 
 use book::{Outcome, Position, run};
