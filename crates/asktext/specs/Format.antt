@@ -1,9 +1,11 @@
 -- What a line says. A line is a list of bytes, each a number from 0 to 255.
-use Rattle.std.specs.Prelude.{ℕ, ◌+◌, ◌-◌, ◌*◌, Bool, true, cond, ◌&&◌, ◌||◌, List, [], ◌∷◌, ◌++◌, map, length, take, drop, Some, None, vec_items, Option, ◌==◌, nat_le, nat_lt, slice_index}
+use Rattle.std.specs.Prelude.{ℕ, ◌+◌, ◌-◌, ◌*◌, Bool, cond, ◌&&◌, ◌||◌, List, [], ◌∷◌, map, length, take, drop, Some, None, Ok, Err, vec_items, Option, Result, ◌==◌, nat_le, nat_lt, slice_index}
+use Rattle.std.specs.List.{fold, list_all, slice_split}
+use Rattle.asktext.specs.declared.AskLine.{AskLine}
 use Rattle.asktext.specs.declared.Fault.{Fault}
 use Rattle.asktext.specs.declared.Fault.TheVariants.{NotANumber, TooFew}
-use Rattle.asktext.specs.declared.Line.{Line}
-use Rattle.asktext.specs.declared.Line.TheVariants.{PassedOver, Unreadable, Ask}
+use Rattle.asktext.specs.declared.ReadError.{ReadError}
+use Rattle.asktext.specs.declared.ReadError.TheVariants.{Unreadable, OutOfMemory}
 
 -- nothing, or why it is no ask, or an ask: a rule's number, a total, a block and the open positions
 pub data Saying : Type 0 where
@@ -29,17 +31,11 @@ is_space b = b == 32 || b == 9
 
 -- there is nothing but blanks and tabs
 abbrev pub all_space : List ℕ → Bool
-all_space [] = true
-all_space (b ∷ bs) = is_space b && all_space bs
-
--- a cut at every blank, where the bytes w of the first word stand before the others
-abbrev pub cut_after : List ℕ → List ℕ → List (List ℕ)
-cut_after w [] = w ∷ []
-cut_after w (b ∷ bs) = cond (b == 32) (w ∷ cut_after [] bs) (cut_after (w ++ b ∷ []) bs)
+all_space text = list_all is_space text
 
 -- the words: what stands between single blanks
 abbrev pub words : List ℕ → List (List ℕ)
-words text = cut_after [] text
+words text = slice_split (λ byte. byte == 32) text
 
 -- a digit, from `0` to `9`
 abbrev pub is_digit : ℕ → Bool
@@ -47,13 +43,11 @@ is_digit b = nat_le 48 b && nat_le b 57
 
 -- every byte is a digit
 abbrev pub all_digits : List ℕ → Bool
-all_digits [] = true
-all_digits (b ∷ bs) = is_digit b && all_digits bs
+all_digits word = list_all is_digit word
 
 -- the decimal number that digits write, where those of n stand before them
 abbrev pub value_after : ℕ → List ℕ → ℕ
-value_after n [] = n
-value_after n (b ∷ bs) = value_after (n * 10 + (b - 48)) bs
+value_after n digits = fold (λ value digit. value * 10 + (digit - 48)) n digits
 
 -- the decimal number that the digits of a word write
 abbrev pub value_of : List ℕ → ℕ
@@ -84,8 +78,9 @@ text_says text = cond (is_comment text || all_space text) nothing (words_say (wo
 abbrev pub line_says : List ℕ → Saying
 line_says line = text_says (without_return line)
 
--- what an answer of `read_line` says
-abbrev pub answer_says : Line → Saying
-answer_says PassedOver = nothing
-answer_says (Unreadable why) = fault why
-answer_says (Ask a) = asks a.rule a.total a.block (vec_items a.«open»)
+-- what an answer of `read_line` says of the line: want of memory says nothing of it
+abbrev pub answer_says : Result (Option AskLine) ReadError → Option Saying
+answer_says (Ok None) = Some nothing
+answer_says (Ok (Some ask)) = Some (asks ask.rule ask.total ask.block (vec_items ask.«open»))
+answer_says (Err (Unreadable why)) = Some (fault why)
+answer_says (Err (OutOfMemory _)) = None

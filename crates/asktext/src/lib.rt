@@ -1,13 +1,15 @@
 // Reads one line of text that holds an ask.
 #![tactic(auto)]
 
-ghost use Rattle.std.specs.Prelude.{◌≡◌, ◌<◌, ◌∷◌, length, IfSome, IfOk, Some};
+ghost use Rattle.std.specs.Prelude.{◌≡◌, ◌+◌, ◌==◌, ◌^◌, ◌<◌, IfErr, IfOk, IfSome, MatchResult, None, Some, alloc_error};
 ghost use Rattle.asktext.specs.Format.{all_space, answer_says, is_comment, is_space, line_says, numbers_say, without_return, words};
-ghost use Rattle.asktext.specs.Parts.{FirstBlank, Numbered, grown_by, later_words, number_of_word};
-ghost use Rattle.asktext.specs.Shown.{fault_shown};
-ghost use Rattle.std.specs.Option.{option_map};
+ghost use Rattle.asktext.specs.Parts.{Numbered, grown_by, number_of_word};
+ghost use Rattle.asktext.specs.Shown.{error_shown, fault_shown};
+ghost use Rattle.asktext.specs.declared.Fault.TheVariants.{NotANumber};
+ghost use Rattle.asktext.specs.declared.ReadError.TheVariants.{Unreadable, OutOfMemory};
 
-use std::alloc::{AllocError, Global};
+use std::alloc::{AllocError, AllocFailed, Global};
+use std::error::Error;
 use std::fmt;
 
 // Why a line is no ask.
@@ -19,6 +21,7 @@ pub enum Fault {
     TooFew(usize),
 }
 
+// by hand, here and for `ReadError`, since a derived text has no contract
 impl fmt::Display for Fault {
     ghost output = { λ fault. Some (fault_shown fault) };
 
@@ -37,47 +40,73 @@ impl fmt::Display for Fault {
     }
 }
 
+// Why a line is not read.
+#[derive(Clone, Copy, PartialEq, Eq, Debug)]
+pub enum ReadError {
+    // The line is no ask.
+    Unreadable(Fault),
+    // Memory ran out, and nothing is said of the line.
+    OutOfMemory(AllocError),
+}
+
+impl fmt::Display for ReadError {
+    ghost output = { λ error. Some (error_shown error) };
+
+    fn fmt<W: fmt::Write>(&self, f: &mut fmt::Formatter<W>) -> fmt::Result {
+        match self {
+            ReadError::Unreadable(why) => write!(f, "{why}"),
+            ReadError::OutOfMemory(_) => write!(f, "out of memory"),
+        }
+    }
+}
+
+impl Error for ReadError {}
+
+// by hand, here and below, since a derived `From` has no contract
+impl From<Fault> for ReadError {
+    ghost from_gives = { λ fault error. error ≡ Unreadable fault };
+
+    fn from(fault: Fault) -> ReadError {
+        ReadError::Unreadable(fault)
+    }
+}
+
+impl From<AllocError> for ReadError {
+    ghost from_gives = { λ refused error. error ≡ OutOfMemory refused };
+
+    fn from(refused: AllocError) -> ReadError {
+        ReadError::OutOfMemory(refused)
+    }
+}
+
+impl<T: Drop> From<AllocFailed<T>> for ReadError {
+    ghost from_gives = { λ _ error. error ≡ OutOfMemory alloc_error };
+
+    fn from(_unstored: AllocFailed<T>) -> ReadError {
+        ReadError::OutOfMemory(AllocError)
+    }
+}
+
 // The numbers of an ask as they stand in the line: its rule's number, its total, its block and the sellers' open positions.
 #[derive(Drop)]
 pub struct AskLine {
+    // A number and no rule: a line may name any number, and whoever asks the rules reports one that no rule bears.
     pub rule: u32,
     pub total: u32,
     pub block: u32,
     pub open: Vec<u32>,
 }
 
-// What a line holds.
-#[derive(Drop)]
-pub enum Line {
-    // Nothing: it is blank or a comment.
-    PassedOver,
-    // No ask, and why.
-    Unreadable(Fault),
-    Ask(AskLine),
-}
-
-// The numbers that words are, or the place of the first that is none.
-#[derive(Drop)]
-enum Numbers {
-    All(Vec<u32>),
-    NoneAt(usize),
-}
-
-// The largest number of a line.
-const LARGEST: u64 = 4_294_967_295;
-
-// What a line holds. It fails only for want of memory.
-pub fn read_line(heap: Global, line: &[u8]) -> Result<Line, AllocError>
-    ensures { IfOk result (λ l. answer_says l ≡ line_says line.now) }
+// The ask of a line, or `None` for one that is passed over: it is blank or a comment.
+pub fn read_line(heap: Global, line: &[u8]) -> Result<Option<AskLine>, ReadError>
+    ensures { IfSome (answer_says result) (λ said. said ≡ line_says line.now) }
 {
     let text = without_return(line);
     if is_comment(text) || is_blank(text) {
-        return Ok(Line::PassedOver);
+        return Ok(None);
     }
-    match read_numbers(heap, text)? {
-        Numbers::All(found) => ask(heap, &found),
-        Numbers::NoneAt(place) => Ok(Line::Unreadable(Fault::NotANumber(place))),
-    }
+    let numbers = read_numbers(heap, text)?;
+    Ok(Some(ask(heap, &numbers)?))
 }
 
 // The line without the carriage return that it may end in.
@@ -101,12 +130,7 @@ fn is_comment(text: &[u8]) -> bool
 fn is_blank(text: &[u8]) -> bool
     ensures { result ≡ all_space text.now }
 {
-    for byte in text {
-        if !is_space(*byte) {
-            return false;
-        }
-    }
-    true
+    text.iter().all(|byte| is_space(*byte))
 }
 
 // Whether a byte is a blank or a tab.
@@ -116,48 +140,31 @@ fn is_space(byte: u8) -> bool
     byte == b' ' || byte == b'\t'
 }
 
-// The numbers that the words of a text are, up to the first that is none.
-fn read_numbers(heap: Global, text: &[u8]) -> Result<Numbers, AllocError>
-    ensures { IfOk result (Numbered (words text.now)) }
+// The numbers that the words of a text are.
+fn read_numbers(heap: Global, text: &[u8]) -> Result<Vec<u32>, ReadError>
+    ensures { Numbered (words text.now) result }
 {
     let mut found = Vec::new(heap);
-    let mut rest = text;
-    loop {
-        let (word, after) = first_word(rest);
-        let Some(n) = number(word) else {
-            return Ok(Numbers::NoneAt(found.len() + 1));
-        };
+    for (index, word) in text.split(ends_word).enumerate() {
+        let n = number_at(index, word)?;
         found.push(n)?;
-        match after {
-            Some(next) => rest = next,
-            None => return Ok(Numbers::All(found)),
-        }
     }
+    Ok(found)
 }
 
-// A text's first word, and what follows the blank after it.
-fn first_word(text: &[u8]) -> (&[u8], Option<&[u8]>)
-    ensures cut { words text.now ≡ result.0.now ∷ later_words (option_map (λ x. x.now) result.1) }
-    ensures shorter { IfSome result.1 (λ s. length s.now < length text.now) }
+// Whether a word ends before the byte.
+fn ends_word(byte: &u8) -> bool
+    ensures { result ≡ (byte.now == 32) }
 {
-    let end = first_blank(text);
-    if end == text.len() {
-        (text, None)
-    } else {
-        (&text[0..end], Some(&text[end + 1..]))
-    }
+    *byte == b' '
 }
 
-// The index of the first blank, or the length where there is none.
-fn first_blank(text: &[u8]) -> usize
-    ensures { FirstBlank text.now result }
+// The number that the word at an index is, or its place.
+fn number_at(index: usize, word: &[u8]) -> Result<u32, Fault>
+    requires { index + 1 < 2 ^ 64 }
+    ensures { MatchResult result (λ n. number_of_word word.now ≡ Some n) (λ fault. (number_of_word word.now ≡ None) × (fault ≡ NotANumber (index + 1))) }
 {
-    for (i, byte) in text.iter().enumerate() {
-        if *byte == b' ' {
-            return i;
-        }
-    }
-    text.len()
+    number(word).ok_or(Fault::NotANumber(index + 1))
 }
 
 // The number that a word is, if it is one.
@@ -178,32 +185,25 @@ fn number(word: &[u8]) -> Option<u32>
 fn grown(value: u32, byte: u8) -> Option<u32>
     ensures { result ≡ grown_by value byte }
 {
-    if byte < b'0' || byte > b'9' {
-        return None;
-    }
-    let more = u64::from(value) * 10 + u64::from(byte - b'0');
-    if more > LARGEST {
-        None
-    } else {
-        Some(more as u32)
-    }
+    let digit = char::from(byte).to_digit(10)?;
+    value.checked_mul(10)?.checked_add(digit)
 }
 
 // The ask that numbers make: the first three, and the list of the others.
-fn ask(heap: Global, numbers: &[u32]) -> Result<Line, AllocError>
-    ensures { IfOk result (λ l. answer_says l ≡ numbers_say numbers.now) }
+fn ask(heap: Global, numbers: &[u32]) -> Result<AskLine, ReadError>
+    ensures ok { IfOk result (λ ask. answer_says (Ok (Some ask)) ≡ Some (numbers_say numbers.now)) }
+    ensures err { IfErr result (λ error. IfSome (answer_says (Err error)) (λ said. said ≡ numbers_say numbers.now)) }
 {
-    if numbers.len() < 3 {
-        return Ok(Line::Unreadable(Fault::TooFew(numbers.len())));
-    }
-    let (first, others) = numbers.split_at(3);
-    let open = Vec::from_slice(heap, others)?;
-    Ok(Line::Ask(AskLine {
-        rule: first[0],
-        total: first[1],
-        block: first[2],
+    let [rule, total, block, open @ ..] = numbers else {
+        return Err(Fault::TooFew(numbers.len()).into());
+    };
+    let open = Vec::from_slice(heap, open)?;
+    Ok(AskLine {
+        rule: *rule,
+        total: *total,
+        block: *block,
         open,
-    }))
+    })
 }
 
 #[cfg(test)]
@@ -212,19 +212,24 @@ mod tests {
     use std::test::Fail;
 
     fn fault(heap: Global, line: &[u8]) -> Result<Option<Fault>, AllocError> {
-        match read_line(heap, line)? {
-            Line::Unreadable(fault) => Ok(Some(fault)),
-            _ => Ok(None),
+        match read_line(heap, line) {
+            Ok(_) => Ok(None),
+            Err(ReadError::Unreadable(fault)) => Ok(Some(fault)),
+            Err(ReadError::OutOfMemory(refused)) => Err(refused),
         }
     }
 
     fn is_passed_over(heap: Global, line: &[u8]) -> Result<bool, AllocError> {
-        Ok(matches!(read_line(heap, line)?, Line::PassedOver))
+        match read_line(heap, line) {
+            Ok(ask) => Ok(ask.is_none()),
+            Err(ReadError::Unreadable(_)) => Ok(false),
+            Err(ReadError::OutOfMemory(refused)) => Err(refused),
+        }
     }
 
     #[test]
     fn an_ask_is_read(rt: HostRuntime) -> Result<(), Fail> {
-        let Line::Ask(ask) = read_line(rt.alloc(), b"2 30 5 007 0 4294967295\r")? else {
+        let Some(ask) = read_line(rt.alloc(), b"2 30 5 007 0 4294967295\r")? else {
             return Err(Fail::new("no ask"));
         };
         assert_eq!(rt; (ask.rule, ask.total, ask.block), (2, 30, 5));

@@ -1,11 +1,12 @@
 -- What is printed for a line.
 use Rattle.std.specs.Prelude.{◌≡◌, ℕ, ◌+◌, List, [], ◌∷◌, ◌++◌, length, Some, None, codes, decimal, Option}
+use Rattle.std.specs.List.{flat_map}
 use Rattle.asktext.specs.Format.{Saying, asks, fault, nothing}
 use Rattle.asktext.specs.Shown.{fault_shown}
 use Rattle.refusals.specs.Shown.{shown_as}
 use Rattle.refusals.specs.declared.Refusal.TheVariants.{UnsoundAsk}
 use Rattle.assignment.specs.Asks.{SoundAsk, sum_of}
-use Rattle.assignment.specs.Choices.{chosen, rule_of}
+use Rattle.assignment.specs.Choices.{no_rule_shown, chosen, rule_of}
 use Rattle.assignment.specs.declared.choices.Choice.{Choice}
 use Rattle.assign.specs.Steps.{step_of, step_shown}
 
@@ -15,8 +16,7 @@ newline = 10 ∷ []
 
 -- Numbers, a blank before each.
 abbrev pub numbers_shown : List ℕ → List ℕ
-numbers_shown [] = []
-numbers_shown (n ∷ ns) = (codes " " ++ decimal n) ++ numbers_shown ns
+numbers_shown numbers = flat_map (λ n. codes " " ++ decimal n) numbers
 
 -- An ask's numbers but for the positions, with the line's place.
 abbrev pub terms_shown : ℕ → ℕ → ℕ → ℕ → List ℕ
@@ -61,7 +61,7 @@ AskReported place number rule total block positions text =
 
 -- What is printed for an ask: by the rule that bears the number, if one does.
 abbrev pub NumberReported : ℕ → ℕ → Option Choice → ℕ → ℕ → List ℕ → List ℕ → Type 0
-NumberReported place number None total block positions text = text ≡ unreadable_shown place (codes "there is no rule " ++ decimal number)
+NumberReported place number None total block positions text = text ≡ unreadable_shown place (no_rule_shown number)
 NumberReported place number (Some rule) total block positions text = AskReported place number rule total block positions text
 
 -- What is printed for a line by what it says: nothing for one that is passed over.

@@ -8,6 +8,7 @@ use report::report;
 use std::io::{BufRead, BufReader};
 
 fn run(rt: &HostRuntime) -> anyhow::Result<()> {
+    // counted by hand: zipped with a range the reading would end at the range's last number
     let mut place = 0u64;
     for line in BufReader::new(rt.alloc(), rt.stdin())?.split(rt.alloc(), b'\n') {
         place = place.saturating_add(1);

@@ -2,6 +2,7 @@
 ghost use Rattle.std.specs.Prelude.{◌≡◌, ◌<◌, Some};
 ghost use Rattle.assign.specs.Steps.{distance_of, distance_shown, mixed_of, mixed_shown, step_of, step_shown};
 
+use std::cmp::Ordering;
 use std::fmt;
 
 // Whole units, and parts of one over, of which `of` make a whole.
@@ -30,49 +31,49 @@ pub struct Step {
     distance: Distance,
 }
 
-impl Mixed {
-    // So many parts of a unit.
-    fn of_parts(parts: u64, of: u32) -> Self
-        requires { 0 < of }
-        ensures { result ≡ mixed_of parts of }
-    {
-        Mixed {
-            whole: parts / of as u64,
-            over: parts % of as u64,
-            of,
-        }
-    }
+// A total that is split over open positions, of which there is one at least: the level of a position is
+// total × position ÷ sum. Levels and amounts are measured in parts of a unit, of which `sum` make a whole.
+#[derive(Clone, Copy)]
+pub struct ProRata {
+    pub total: u32,
+    pub sum: u32,
+    ghost some_open: { 0 < sum },
 }
 
-impl Distance {
-    // From an amount to a level, both in parts of a unit.
-    fn between(amount: u64, level: u64, of: u32) -> Self
-        requires { 0 < of }
-        ensures { result ≡ distance_of amount level of }
+impl ProRata {
+    // The step of a seller.
+    pub fn step(self, seller: usize, position: u32, amount: u32) -> Step
+        ensures { result ≡ step_of seller self.total self.sum position amount }
     {
-        if amount == level {
-            Distance::At
-        } else if amount > level {
-            Distance::Above(Mixed::of_parts(amount - level, of))
-        } else {
-            Distance::Under(Mixed::of_parts(level - amount, of))
-        }
-    }
-}
-
-impl Step {
-    // The step of a seller, by the total and the sum of the open positions.
-    pub(crate) fn new(seller: usize, total: u32, sum: u32, position: u32, amount: u32) -> Self
-        requires { 0 < sum }
-        ensures { result ≡ step_of seller total sum position amount }
-    {
-        let level = total as u64 * position as u64;
+        let level = u64::from(self.total) * u64::from(position);
         Step {
             seller,
             position,
-            level: Mixed::of_parts(level, sum),
+            level: self.mixed(level),
             amount,
-            distance: Distance::between(amount as u64 * sum as u64, level, sum),
+            distance: self.distance(u64::from(amount) * u64::from(self.sum), level),
+        }
+    }
+
+    // How far an amount is from a level.
+    fn distance(self, amount: u64, level: u64) -> Distance
+        ensures { result ≡ distance_of amount level self.sum }
+    {
+        match amount.cmp(&level) {
+            Ordering::Equal => Distance::At,
+            Ordering::Greater => Distance::Above(self.mixed(amount - level)),
+            Ordering::Less => Distance::Under(self.mixed(level - amount)),
+        }
+    }
+
+    // So many parts.
+    fn mixed(self, parts: u64) -> Mixed
+        ensures { result ≡ mixed_of parts self.sum }
+    {
+        Mixed {
+            whole: parts / u64::from(self.sum),
+            over: parts % u64::from(self.sum),
+            of: self.sum,
         }
     }
 }
@@ -81,15 +82,12 @@ impl fmt::Display for Mixed {
     ghost output = { λ m. Some (mixed_shown m) };
 
     fn fmt<W: fmt::Write>(&self, f: &mut fmt::Formatter<W>) -> fmt::Result {
-        let whole = self.whole;
-        let over = self.over;
-        let of = self.of;
-        if over == 0 {
-            write!(f, "{whole}")
-        } else if whole == 0 {
-            write!(f, "{over}/{of}")
+        if self.over == 0 {
+            write!(f, "{}", self.whole)
+        } else if self.whole == 0 {
+            write!(f, "{}/{}", self.over, self.of)
         } else {
-            write!(f, "{whole} {over}/{of}")
+            write!(f, "{} {}/{}", self.whole, self.over, self.of)
         }
     }
 }
@@ -110,14 +108,10 @@ impl fmt::Display for Step {
     ghost output = { λ step. Some (step_shown step) };
 
     fn fmt<W: fmt::Write>(&self, f: &mut fmt::Formatter<W>) -> fmt::Result {
-        let seller = self.seller;
-        let position = self.position;
-        let level = self.level;
-        let amount = self.amount;
-        let distance = self.distance;
         write!(
             f,
-            "seller {seller}: open {position}, pro rata {level}, gets {amount}, {distance}"
+            "seller {}: open {}, pro rata {}, gets {}, {}",
+            self.seller, self.position, self.level, self.amount, self.distance
         )
     }
 }

@@ -1,4 +1,3 @@
 mod BlockRanks
 mod BlockRounds
 mod BlockTurns
-mod SoundTests

@@ -26,3 +26,8 @@ pub record Standing (t : Terms) (os : List ℕ) (held : List Bool) : Type 0 wher
   pub terms : TermsOf t os
   pub long : length held ≡ length os
   pub roomy : (i : ℕ) → i < length os → slice_index_or held i false ≡ true → floor_share t (slice_index os i) + t.block ≤ slice_index os i
+
+-- The ask is sound, whoever has a block has room for it, and each seller has its floor share and its block, if any, on top.
+pub record Granted (t : Terms) (os : List ℕ) (held : List Bool) (amounts : List ℕ) : Type 0 where
+  pub standing : Standing t os held
+  pub written : amounts ≡ all_granted t os held

@@ -1,10 +1,9 @@
 -- The running rule fits.
-use Rattle.std.specs.Prelude.{◌≡◌, ℕ, zero, suc, ◌+◌, ◌-◌, ◌*◌, ◌/◌, ◌<◌, ◌≤◌, List, [], ◌∷◌, length, slice_index, slice_index_or, refl}
+use Rattle.std.specs.Prelude.{◌≡◌, ℕ, zero, suc, ◌+◌, ◌-◌, ◌*◌, ◌/◌, ◌<◌, ◌≤◌, List, [], ◌∷◌, length, slice_index, refl}
 use Rattle.std.proofs.Common.{sym, ap, ◌∙◌, ⊎_elim, mul-le-mul_right, mul-add, add-mul, zero-add, add-zero, add_assoc, mul-div_cancel, mul-zero, arith}
-use Rattle.std.proofs.Math.Nat.{zero-div}
-use Rattle.std.proofs.lemmas.Nat.{div-add-mod', mod_below, div_below, le-div}
+use Rattle.std.proofs.Math.Nat.{div-mul-le_self, lt-div-mul-add, zero-div}
+use Rattle.std.proofs.lemmas.Nat.{div_below, le-div}
 use Rattle.std.proofs.lemmas.Bool.{cases_lt}
-use Rattle.assignment.specs.ListSteps.{get_or_le_sum}
 use Rattle.assignment.specs.Asks.{sum_of, Sound, Fit}
 use Rattle.assignment.specs.RunningSums.{running, running_from}
 
@@ -14,15 +13,9 @@ pub record Near (s o more a : ℕ) : Type 0 where
   pub over : a * s ≤ more + s
   pub under : more ≤ a * s + s
 
-div_upper : (n k : ℕ) → 0 < k → n < (n / k) * k + k
-div_upper n k h = omega (arith, div-add-mod' n k, mod_below n k h)
-
-div_lower : (n k : ℕ) → (n / k) * k ≤ n
-div_lower n k = omega (arith, div-add-mod' n k)
-
 -- the quotients on the two sides of a seller
 pub grows : (n more s : ℕ) → 0 < s → n / s ≤ (n + more) / s
-grows n more s h = le-div (n / s) (n + more) s h (omega (arith, div_lower n s))
+grows n more s h = le-div (n / s) (n + more) s h (omega (arith, div-mul-le_self n s))
 
 near_of : (q0 d s o n more : ℕ) → q0 * s ≤ n → n < q0 * s + s → (q0 + d) * s ≤ n + more → n + more < (q0 + d) * s + s → d ≤ o → Near s o more d
 near_of q0 d s o n more a1 a2 b1 b2 le =
@@ -35,9 +28,9 @@ near n more s o h le =
     let q1 = (n + more) / s in
     let g : q0 ≤ q1 = grows n more s h in
     let e : q0 + (q1 - q0) ≡ q1 = omega arith in
-    let below : q1 < q0 + o + 1 = div_below (n + more) s (q0 + o + 1) h (omega (arith, div_upper n s h)) in
-    near_of q0 (q1 - q0) s o n more (div_lower n s) (div_upper n s h)
-    (rw e (div_lower (n + more) s)) (rw e (div_upper (n + more) s h)) (omega arith)
+    let below : q1 < q0 + o + 1 = div_below (n + more) s (q0 + o + 1) h (omega (arith, lt-div-mul-add {a = n} h)) in
+    near_of q0 (q1 - q0) s o n more (div-mul-le_self n s) (lt-div-mul-add {a = n} h)
+    (rw e (div-mul-le_self (n + more) s)) (rw e (lt-div-mul-add {a = n + more} h)) (omega arith)
 
 -- all sellers from one on
 module _ (total all : ℕ) (some : 0 < all) (covered : total ≤ all) where
@@ -90,17 +83,3 @@ running_fits total block positions sound = ⊎_elim some (λ z. empty (omega ari
         go : (os : List ℕ) → length os ≡ 0 → total ≤ sum_of os → Fit total block os (running total os)
         go [] e c = record { long = refl; whole = omega arith; within = λ i h. absurd (omega arith); not_over = λ i h. absurd (omega arith); not_under = λ i h. absurd (omega arith) }
         go (o ∷ os) e c = absurd (omega arith)
-
--- what a turn of the loop needs, at the seller i
-pub record Turn (total all before o : ℕ) : Type 0 where
-  pub grown : total * before / all ≤ total * (before + o) / all
-  pub most : total * (before + o) / all - total * before / all ≤ o
-
-pub turn : (total block : ℕ) (positions : List ℕ) (all before i : ℕ) → Sound total block positions → all ≡ sum_of positions → i < length positions → Turn total all before (slice_index positions i)
-turn total block positions all before i sound e h =
-    let o = slice_index_or positions i 0 in
-    let pos : 0 < all = omega (arith, get_or_le_sum positions i h, sound.opens.each_open i h) in
-    record {
-      grown = rw (mul-add total before o) (grows (total * before) (total * o) all pos);
-      most = (seller total all pos (omega (arith, sound.covered)) before o).most;
-    }

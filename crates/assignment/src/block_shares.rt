@@ -1,21 +1,23 @@
 // Rule 2: floor shares, then whole blocks by the largest remainder, then the
 // rest in list order.
-ghost use Rattle.std.specs.Prelude.{◌≡◌, ◌-◌, ◌≤◌, min, false, map, length, replicate, IfSome, Some, None, OnOk};
+ghost use Rattle.std.specs.Prelude.{◌≡◌, ◌-◌, ◌≤◌, min, map, length, IfSome, OnOk};
 ghost use Rattle.assignment.specs.Asks.{Answered, SoundAsk};
 ghost use Rattle.assignment.specs.BlockLaws.{Blockwise, FitsInAnyOrder, Waits};
 ghost use Rattle.assignment.specs.BlockShares.{blocks, by_remainder, claim_of, floor_share, floors, last_pass, rounds, state, stronger, strongest_from};
-ghost use Rattle.assignment.specs.BlockSteps.{Apt, Standing, TermsOf, all_granted};
+ghost use Rattle.assignment.specs.BlockSteps.{Apt, Granted, Standing, TermsOf};
 ghost use Rattle.assignment.specs.BlockDuties.{blocks_fit};
 ghost use Rattle.assignment.specs.BlockOrder.{by_remainder_proper};
 
-use crate::asks::{MOST_SELLERS, sound_sum};
+use crate::asks::{Ask, MOST_SELLERS};
 use crate::fit_rules::{AssignmentRule, FitRule};
 use refusals::Refusal;
 
-#[derive(Clone, Copy)]
+#[derive(Clone, Copy, PartialEq, Eq, Debug)]
 pub struct Blocks;
 
-// An ask's total and block, and the sum of its open positions.
+// An ask's total and block, and the sum of its open positions. That the ask is sound is asked for and is no ghost
+// field: the definitions take the terms of any ask. Positions, flags and amounts are handed to each step beside the
+// terms: the definitions take them so, and a struct of all would need a clause for each that a step leaves as it is.
 #[derive(Clone, Copy)]
 pub struct Terms {
     total: u32,
@@ -32,31 +34,29 @@ pub struct Claim {
 
 impl Claim {
     // The stronger of this claim and the best of earlier sellers, who keep it on a tie.
+    // no `Ord` with `max`: by the remainder alone, claims of different sellers would be equal
     fn against(self, best: Option<Claim>) -> Option<Claim>
         ensures { result ≡ stronger best (Some self) }
     {
         match best {
-            Some(earlier) => {
-                if self.remainder > earlier.remainder {
-                    Some(self)
-                } else {
-                    Some(earlier)
-                }
-            }
-            None => Some(self),
+            Some(earlier) if self.remainder <= earlier.remainder => Some(earlier),
+            _ => Some(self),
         }
     }
 }
 
 impl Terms {
     // The floor share of a seller.
+    #[tactic(auto, using(crate::specs::BlockDuties::share_le))]
     fn share(self, position: u32) -> u32
         requires { Apt self }
         ensures value { result ≡ floor_share self position }
         ensures bound { result ≤ position }
     {
-        let count = self.total as u64 * position as u64 / (self.all as u64 * self.block as u64);
-        (self.block as u64 * count) as u32
+        let count = u64::from(self.total) * u64::from(position)
+            / (u64::from(self.all) * u64::from(self.block));
+        // an `as` is proved to lose nothing, and `try_from` would bring an error that cannot come
+        (u64::from(self.block) * count) as u32
     }
 
     // The claim of a seller, if it has room for a block and none yet.
@@ -68,7 +68,8 @@ impl Terms {
         if has || self.block > position - share {
             return None;
         }
-        let remainder = self.total as u64 * position as u64 - share as u64 * self.all as u64;
+        let remainder = u64::from(self.total) * u64::from(position)
+            - u64::from(share) * u64::from(self.all);
         Some(Claim { seller, remainder })
     }
 
@@ -79,8 +80,8 @@ impl Terms {
         ensures waits { IfSome result (λ claim. Waits self «open».now held.now claim.seller) }
     {
         let mut best = None;
-        for i in 0..open.len() {
-            if let Some(claim) = self.claim(i, open[i], held[i]) {
+        for (i, (&position, &has)) in open.iter().zip(held).enumerate() {
+            if let Some(claim) = self.claim(i, position, has) {
                 best = claim.against(best);
             }
         }
@@ -95,8 +96,9 @@ impl Terms {
         ensures written { answer.new ≡ map (floor_share self) «open».now }
     {
         let mut left = self.total;
-        for i in 0..open.len() {
-            let share = self.share(open[i]);
+        // by index: after a loop over `answer.iter_mut().zip(open)` a proof knows nothing of what was written
+        for (i, &position) in open.iter().enumerate() {
+            let share = self.share(position);
             answer[i] = share;
             left -= share;
         }
@@ -104,13 +106,11 @@ impl Terms {
     }
 
     // Gives whole blocks while there is one and somebody waits for it, and says what is left.
+    #[tactic(auto, using(crate::proofs::BlockTurns::granted_places))]
     fn give_blocks(self, mut left: u32, open: &[u32], held: &mut [bool], answer: &mut [u32]) -> u32
-        requires standing { Standing self «open».now held.old }
-        requires written { answer.old ≡ all_granted self «open».now held.old }
-        ensures left { result ≡ (rounds by_remainder self «open».now (length «open».now) (state left held.old)).left }
-        ensures held { held.new ≡ (rounds by_remainder self «open».now (length «open».now) (state left held.old)).held }
-        ensures standing { Standing self «open».now held.new }
-        ensures written { answer.new ≡ all_granted self «open».now held.new }
+        requires { Granted self «open».now held.old answer.old }
+        ensures rounds { state result held.new ≡ rounds by_remainder self «open».now (length «open».now) (state left held.old) }
+        ensures granted { Granted self «open».now held.new answer.new }
     {
         while left >= self.block {
             let Some(next) = self.strongest(open, held) else {
@@ -132,27 +132,20 @@ impl Terms {
     }
 
     // Gives what is left to the sellers without a block, in list order.
+    #[tactic(auto, using(crate::proofs::BlockTurns::granted_places))]
     fn give_rest(self, mut left: u32, open: &[u32], held: &[bool], answer: &mut [u32])
-        requires standing { Standing self «open».now held.now }
-        requires written { answer.old ≡ all_granted self «open».now held.now }
+        requires { Granted self «open».now held.now answer.old }
         ensures { answer.new ≡ last_pass self left «open».now held.now }
     {
-        for i in 0..open.len() {
+        // by index, as in `write_floors`
+        for (i, amount) in answer.iter_mut().enumerate() {
             if !held[i] {
-                let share = answer[i];
-                let part = self.part(left, open[i], share);
-                answer[i] = share + part;
+                let part = self.part(left, open[i], *amount);
+                *amount += part;
                 left -= part;
             }
         }
     }
-}
-
-// Who has a block at the start: nobody.
-fn nobody() -> [bool; MOST_SELLERS]
-    ensures { result ≡ replicate 256 false }
-{
-    [false; MOST_SELLERS]
 }
 
 impl AssignmentRule for Blocks {
@@ -164,20 +157,24 @@ impl FitRule for Blocks {
 
     ghost fit = { λ rule total block positions sound. blocks_fit by_remainder by_remainder_proper total block positions sound };
 
-    fn ask(&self, total: u32, block: u32, open: &[u32], answer: &mut [u32]) -> Result<(), Refusal>
-        ensures answered { Answered result (SoundAsk total block «open».now (length answer.old)) (blocks total block «open».now) answer.old answer.new }
+    // The trait's clauses stand here again, since this rule adds one of its own.
+    fn ask(&self, ask: Ask<'_>, answer: &mut [u32]) -> Result<(), Refusal>
+        ensures answered { Answered result (SoundAsk ask.entry.total ask.entry.block ask.entry.«open».now (length answer.old)) (blocks ask.entry.total ask.entry.block ask.entry.«open».now) answer.old answer.new }
         ensures stays { self.exit.now ≡ self.entry.now }
-        ensures blockwise { OnOk result (Blockwise total block «open».now answer.new) }
+        ensures blockwise { OnOk result (Blockwise ask.entry.total ask.entry.block ask.entry.«open».now answer.new) }
     {
-        let Some(all) = sound_sum(total, block, open, answer.len()) else {
-            return Err(Refusal::UnsoundAsk);
+        let all = ask.sound_sum(answer.len())?;
+        let terms = Terms {
+            total: ask.total,
+            block: ask.block,
+            all,
         };
-        let terms = Terms { total, block, all };
-        let mut places = nobody();
-        let held = &mut places[0..open.len()];
-        let after_floors = terms.write_floors(open, answer);
-        let rest = terms.give_blocks(after_floors, open, held, answer);
-        terms.give_rest(rest, open, held, answer);
+        // a list beside the positions, in fixed memory: a rule allocates nothing
+        let mut has_block = [false; MOST_SELLERS];
+        let held = &mut has_block[..ask.open.len()];
+        let after_floors = terms.write_floors(ask.open, answer);
+        let rest = terms.give_blocks(after_floors, ask.open, held, answer);
+        terms.give_rest(rest, ask.open, held, answer);
         Ok(())
     }
 }

@@ -1,37 +1,58 @@
 // A choice among the numbered rules, made when the program runs.
-ghost use Rattle.std.specs.Prelude.{◌≡◌};
-ghost use Rattle.assignment.specs.Choices.{chosen, rule_number, rule_of};
+ghost use Rattle.std.specs.Prelude.{◌≡◌, Some};
+ghost use Rattle.assignment.specs.Choices.{RuleByNumber, chosen, no_rule_shown, rule_number};
 ghost use Rattle.assignment.specs.BlockShares.{by_remainder};
 ghost use Rattle.assignment.specs.declared.choices.Choice.TheVariants.{Running, Blocks};
 ghost use Rattle.assignment.specs.BlockDuties.{blocks_fit};
 ghost use Rattle.assignment.specs.BlockOrder.{by_remainder_proper};
 ghost use Rattle.assignment.specs.RunningDuties.{running_fits};
 
+use crate::asks::Ask;
 use crate::block_shares::Blocks;
 use crate::fit_rules::{AssignmentRule, FitRule};
 use crate::running_sums::Running;
 use refusals::Refusal;
+use std::error::Error;
+use std::fmt;
 
-#[derive(Clone, Copy)]
+#[derive(Clone, Copy, PartialEq, Eq, Debug)]
 pub enum Choice {
     Running(Running),
     Blocks(Blocks),
 }
 
-impl Choice {
-    // The rule that bears the number.
-    pub fn by_number(number: u32) -> Option<Choice>
-        ensures { result ≡ rule_of number }
-    {
-        if number == Running::NUMBER {
-            Some(Choice::Running(Running))
-        } else if number == Blocks::NUMBER {
-            Some(Choice::Blocks(Blocks))
-        } else {
-            None
+// A number that no rule bears.
+#[derive(Clone, Copy, PartialEq, Eq, Debug)]
+pub struct UnknownRule(pub u32);
+
+// The rule that bears the number.
+impl TryFrom<u32> for Choice {
+    type Error = UnknownRule;
+
+    ghost try_from_gives = { RuleByNumber };
+
+    fn try_from(number: u32) -> Result<Self, UnknownRule> {
+        match number {
+            Running::NUMBER => Ok(Choice::Running(Running)),
+            Blocks::NUMBER => Ok(Choice::Blocks(Blocks)),
+            _ => Err(UnknownRule(number)),
         }
     }
+}
 
+// "there is no rule 7".
+// by hand, here and at `Error`, since a derived text has no contract
+impl fmt::Display for UnknownRule {
+    ghost output = { λ unknown. Some (no_rule_shown unknown.0) };
+
+    fn fmt<W: fmt::Write>(&self, f: &mut fmt::Formatter<W>) -> fmt::Result {
+        write!(f, "there is no rule {}", self.0)
+    }
+}
+
+impl Error for UnknownRule {}
+
+impl Choice {
     // The number of the chosen rule.
     pub fn number(&self) -> u32
         ensures { result ≡ rule_number self.now }
@@ -51,10 +72,10 @@ impl FitRule for Choice {
       | Blocks _ ↦ λ total block positions sound. blocks_fit by_remainder by_remainder_proper total block positions sound
     ] };
 
-    fn ask(&self, total: u32, block: u32, open: &[u32], answer: &mut [u32]) -> Result<(), Refusal> {
+    fn ask(&self, ask: Ask<'_>, answer: &mut [u32]) -> Result<(), Refusal> {
         match self {
-            Choice::Running(rule) => rule.ask(total, block, open, answer),
-            Choice::Blocks(rule) => rule.ask(total, block, open, answer),
+            Choice::Running(rule) => rule.ask(ask, answer),
+            Choice::Blocks(rule) => rule.ask(ask, answer),
         }
     }
 }

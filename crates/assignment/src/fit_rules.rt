@@ -2,6 +2,7 @@
 ghost use Rattle.std.specs.Prelude.{◌≡◌, ℕ, List, length, OnOk};
 ghost use Rattle.assignment.specs.Asks.{Answered, Fit, Sound, SoundAsk};
 
+use crate::asks::Ask;
 use refusals::Refusal;
 
 // A rule that can be asked, and keeps the duties of a fit rule.
@@ -10,8 +11,8 @@ pub trait FitRule {
     ghost meaning: { Self → ℕ → ℕ → List ℕ → List ℕ };
 
     // Writes the amounts of a sound ask to the answer list; refuses any other.
-    fn ask(&self, total: u32, block: u32, open: &[u32], answer: &mut [u32]) -> Result<(), Refusal>
-        ensures answered { Answered result (SoundAsk total block «open».now (length answer.old)) (meaning self.now total block «open».now) answer.old answer.new }
+    fn ask(&self, ask: Ask<'_>, answer: &mut [u32]) -> Result<(), Refusal>
+        ensures answered { Answered result (SoundAsk ask.entry.total ask.entry.block ask.entry.«open».now (length answer.old)) (meaning self.now ask.entry.total ask.entry.block ask.entry.«open».now) answer.old answer.new }
         ensures stays { self.exit.now ≡ self.entry.now };
 
     // The duties, for every sound ask. The same ask always has the same amounts, since they are a function of it.
@@ -23,17 +24,12 @@ pub trait AssignmentRule: FitRule {
     const NUMBER: u32;
 }
 
-// Asks any fit rule. That the amounts fit follows from the rule's duties alone.
-pub fn assign_by<R: FitRule>(
-    rule: &R,
-    total: u32,
-    block: u32,
-    open: &[u32],
-    answer: &mut [u32],
-) -> Result<(), Refusal>
-    ensures answered { Answered result (SoundAsk total block «open».now (length answer.old)) (R.meaning rule.now total block «open».now) answer.old answer.new }
-    ensures fits { OnOk result (Fit total block «open».now answer.new) }
+// Asks any fit rule. That the amounts fit follows from the rule's duties alone. That the rule stays as it is is handed
+// on from the trait.
+pub fn assign_by<R: FitRule>(rule: &R, ask: Ask<'_>, answer: &mut [u32]) -> Result<(), Refusal>
+    ensures answered { Answered result (SoundAsk ask.entry.total ask.entry.block ask.entry.«open».now (length answer.old)) (R.meaning rule.now ask.entry.total ask.entry.block ask.entry.«open».now) answer.old answer.new }
+    ensures fits { OnOk result (Fit ask.entry.total ask.entry.block ask.entry.«open».now answer.new) }
     ensures stays { rule.exit.now ≡ rule.entry.now }
 {
-    rule.ask(total, block, open, answer)
+    rule.ask(ask, answer)
 }

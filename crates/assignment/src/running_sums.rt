@@ -3,11 +3,11 @@ ghost use Rattle.std.specs.Prelude.{◌≡◌, ◌*◌, ◌/◌, ◌<◌};
 ghost use Rattle.assignment.specs.RunningSums.{running};
 ghost use Rattle.assignment.specs.RunningDuties.{running_fits};
 
-use crate::asks::sound_sum;
+use crate::asks::Ask;
 use crate::fit_rules::{AssignmentRule, FitRule};
 use refusals::Refusal;
 
-#[derive(Clone, Copy)]
+#[derive(Clone, Copy, PartialEq, Eq, Debug)]
 pub struct Running;
 
 // What is due to positions that add up to `part` of the sum, the fraction dropped.
@@ -15,7 +15,7 @@ fn due_to(total: u32, part: u32, sum: u32) -> u64
     requires { 0 < sum }
     ensures { result ≡ total * part / sum }
 {
-    total as u64 * part as u64 / sum as u64
+    u64::from(total) * u64::from(part) / u64::from(sum)
 }
 
 impl AssignmentRule for Running {
@@ -27,15 +27,15 @@ impl FitRule for Running {
 
     ghost fit = { λ r total block held sound. running_fits total block held sound };
 
-    fn ask(&self, total: u32, block: u32, open: &[u32], answer: &mut [u32]) -> Result<(), Refusal> {
-        let Some(sum) = sound_sum(total, block, open, answer.len()) else {
-            return Err(Refusal::UnsoundAsk);
-        };
+    fn ask(&self, ask: Ask<'_>, answer: &mut [u32]) -> Result<(), Refusal> {
+        let sum = ask.sound_sum(answer.len())?;
         let mut before = 0;
         let mut paid = 0;
-        for i in 0..open.len() {
-            before += open[i];
-            let due = due_to(total, before, sum);
+        // by index: after a loop over `answer.iter_mut().zip(ask.open)` a proof knows nothing of what was written
+        for (i, &position) in ask.open.iter().enumerate() {
+            before += position;
+            let due = due_to(ask.total, before, sum);
+            // an `as` is proved to lose nothing, and `try_from` would bring an error that cannot come
             answer[i] = (due - paid) as u32;
             paid = due;
         }

@@ -60,8 +60,7 @@ impl Refusal {
         ensures { result ≡ place_of self.now }
     {
         match self {
-            Refusal::BadHeader(place) => Some(*place),
-            Refusal::BadRow(place) => Some(*place),
+            Refusal::BadHeader(place) | Refusal::BadRow(place) => Some(*place),
             _ => None,
         }
     }

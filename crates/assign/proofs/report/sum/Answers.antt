@@ -1,12 +1,11 @@
-use Rattle.std.proofs.Common.{arith}
-use Rattle.assignment.specs.ListSteps.{sum_drop_all, sum_drop_more}
+use Rattle.std.proofs.Common.{◌∙◌, arith}
+use Rattle.std.proofs.lemmas.Iterator.{YieldsList-from_slice}
+use Rattle.std.proofs.lemmas.Iterator.Consumers.{fits_from_yields_list, sum_from_yields_List}
+use Rattle.assign.proofs.Sums.{sum_is_sum_of}
 use Rattle.assign.proofs.report.sum.Goals as goal
 
-pub overflow_add-sum : goal.overflow_add-sum
-overflow_add-sum c = omega (arith, sum_drop_more c.args.amounts.now c.loop-amount.amount-index c.loop-amount-test.true)
-
-pub loop-amount-preserved : goal.loop-amount-preserved
-loop-amount-preserved c = omega (arith, sum_drop_more c.args.amounts.now c.loop-amount.amount-index c.loop-amount-test.true)
+pub sum-requires-clause-fits : goal.sum-requires-clause-fits
+sum-requires-clause-fits c = fits_from_yields_list _ _ (YieldsList-from_slice c.args.amounts.now (cc)) (omega (arith, sum_is_sum_of c.args.amounts.now, c.requires))
 
 pub returns : goal.returns
-returns c = omega (arith, sum_drop_all c.args.amounts.now c.loop-amount.amount-index c.loop-amount-test.false)
+returns c = sum_from_yields_List _ _ c.sum.ensures.ran (YieldsList-from_slice c.args.amounts.now (cc)) ∙ sum_is_sum_of c.args.amounts.now

@@ -1,36 +1,25 @@
-use Rattle.std.proofs.Common.{sym, ap, ◌∙◌, arith}
-use Rattle.assignment.specs.BlockShares.{State}
+use Rattle.std.proofs.Common.{sym, ◌∙◌, arith}
 use Rattle.assignment.proofs.BlockTurns.{block_given, rounds_given, rounds_short, rounds_unclaimed}
 use Rattle.assignment.proofs.block_shares.Terms.give_blocks.Goals as goal
 
-pub bounds-answer-next : goal.bounds-answer-next
-bounds-answer-next c = (block_given c.args.self c.args.open.now c.loop-left.held c.loop-left.answer c.in-Some.next.seller c.loop-left.invariant.0 c.loop-left.invariant.1 c.in-Some.ensures.waits).place
-
 pub overflow_add-answer : goal.overflow_add-answer
 overflow_add-answer c =
-    let given = block_given c.args.self c.args.open.now c.loop-left.held c.loop-left.answer c.in-Some.next.seller c.loop-left.invariant.0 c.loop-left.invariant.1 c.in-Some.ensures.waits in
-    omega (arith, given.room, c.type_inv.open c.in-Some.next.seller)
-
-pub bounds-answer-next-in-loop-left : goal.bounds-answer-next-in-loop-left
-bounds-answer-next-in-loop-left c = (block_given c.args.self c.args.open.now c.loop-left.held c.loop-left.answer c.in-Some.next.seller c.loop-left.invariant.0 c.loop-left.invariant.1 c.in-Some.ensures.waits).place
+    omega (arith, (block_given c.loop-left.invariant.granted c.in-Some.ensures.waits).room, c.type_inv.open c.in-Some.next.seller)
 
 pub loop-left-preserved : goal.loop-left-preserved
 loop-left-preserved c =
     let inv = c.loop-left.invariant in
-    let given = block_given c.args.self c.args.open.now c.loop-left.held c.loop-left.answer c.in-Some.next.seller inv.0 inv.1 c.in-Some.ensures.waits in (
-      given.standing,
-      given.written,
-      rounds_given c.args.self c.args.open.now c.loop-left.held c.loop-left.left c.in-Some.next inv.0.long c.in-Some.ensures.value c.loop-left-test.true ∙ inv.2,
-    )
+    record {
+      granted = (block_given inv.granted c.in-Some.ensures.waits).granted;
+      to_come = rounds_given inv.granted.standing c.in-Some.ensures.value c.loop-left-test.true ∙ inv.to_come;
+    }
 
-pub returns-after-loop-left : goal.returns-after-loop-left
-returns-after-loop-left c =
+pub returns-after-loop-left-clause-rounds : goal.returns-after-loop-left-clause-rounds
+returns-after-loop-left-clause-rounds c =
     let inv = c.loop-left.invariant in
-    let e = sym (rounds_short c.args.self c.args.open.now c.loop-left.held c.loop-left.left inv.0.long c.loop-left-test.false) ∙ inv.2 in
-    record { left = ap (λ (st : State). st.left) e; held = ap (λ (st : State). st.held) e; standing = inv.0; written = inv.1 }
+    sym (rounds_short inv.granted.standing c.loop-left-test.false) ∙ inv.to_come
 
-pub returns-in_default : goal.returns-in_default
-returns-in_default c =
+pub returns-in_default-clause-rounds : goal.returns-in_default-clause-rounds
+returns-in_default-clause-rounds c =
     let inv = c.loop-left.invariant in
-    let e = sym (rounds_unclaimed c.args.self c.args.open.now c.loop-left.held c.loop-left.left inv.0.long c.in_default.ensures.value) ∙ inv.2 in
-    record { left = ap (λ (st : State). st.left) e; held = ap (λ (st : State). st.held) e; standing = inv.0; written = inv.1 }
+    sym (rounds_unclaimed inv.granted.standing c.in_default.ensures.value) ∙ inv.to_come

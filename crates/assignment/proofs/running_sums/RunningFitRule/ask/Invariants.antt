@@ -5,4 +5,8 @@ use Rattle.assignment.proofs.running_sums.RunningFitRule.ask.Given as goal
 
 abbrev pub invariant-loop-i : goal.invariant-loop-i
 invariant-loop-i l =
-    (l.before + sum_of (drop l.i l.open) ≡ sum_of l.open) × (l.paid ≡ l.total * l.before / l.sum) × (take l.i l.answer ++ running_from l.total l.sum l.before (drop l.i l.open) ≡ running l.total l.open)
+    let os = l.ask.«open».now in record {
+      part : l.before + sum_of (drop l.i os) ≡ sum_of os;
+      due : l.paid ≡ l.ask.total * l.before / l.sum;
+      written : take l.i l.answer ++ running_from l.ask.total l.sum l.before (drop l.i os) ≡ running l.ask.total os;
+    }
