@@ -33,21 +33,15 @@ module _ {R : Type 0} (w : World R) where
 
   pub one_more : (start : Book) (calls : List (Call R)) (i : ℕ) (call : Call R) (rs : List (Option Answer)) (r : Option Answer) (book new : Book) → i < length calls → call ≡ get_or calls i call → Sofar start calls i rs book → Told w (history_of w [] (take i calls)) call r book new → Sofar start calls (i + 1) (rs ++ r ∷ []) new
   one_more start calls i call rs r book new lt is s told =
-      let more : take (i + 1) calls ≡ take i calls ++ (call ∷ []) = take_more calls i call lt ∙ ap (λ x. take i calls ++ (x ∷ [])) (sym is) in
+      let more : take (i + 1) calls ≡ take i calls ++ call ∷ [] = take_more calls i call lt ∙ ap (λ x. take i calls ++ x ∷ []) (sym is) in
       record {
-        answered = ap (λ l. l ++ (r ∷ [])) s.answered ∙ ap (λ x. answers_of w [] (take i calls) ++ (x ∷ [])) told.answered ∙ sym (ap (answers_of w []) more ∙ answers_push [] (take i calls) call);
-        recorded = subst (λ t. Records t new) (sym (ap (history_of w []) more ∙ history_push [] (take i calls) call)) told.recorded;
+        answered = rw (more, answers_push [] (take i calls) call, s.answered, told.answered) refl;
+        recorded = rw (more, history_push [] (take i calls) call) told.recorded;
         empty = s.empty;
-        each = subst (λ l. Goes w [] start l (rs ++ r ∷ []) new) (sym more) (goes_push [] start (take i calls) rs book new call r s.each told);
+        each = rw more (goes_push [] start (take i calls) rs book new call r s.each told);
       }
 
   pub ended : (start : Book) (calls : List (Call R)) (i : ℕ) (rs : List (Option Answer)) (book : Book) → length calls ≤ i → Sofar start calls i rs book → Ran w calls rs book
   ended start calls i rs book ge s =
-      let all : take i calls ≡ calls = take_all i calls ge in
-      record {
-        answered = s.answered ∙ ap (answers_of w []) all;
-        recorded = subst (λ l. Records (history_of w [] l) book) all s.recorded;
-        start = start;
-        empty = s.empty;
-        each = subst (λ l. Goes w [] start l rs book) all s.each;
-      }
+      let all = take_all i calls ge in
+      record { answered = rw all at s.answered; recorded = rw all at s.recorded; start = start; empty = s.empty; each = rw all at s.each }

@@ -1,16 +1,16 @@
 -- Rows entered among positions in key order.
-use Rattle.std.proofs.Common.{◌≡◌, ℕ, true, false, List, length, Ok, Err, Result, sym, refl, ap, ◌∙◌, ⊎_elim}
-use Rattle.std.proofs.lemmas.Bool.{both_ways, cases_Bool}
+use Rattle.std.proofs.Common.{arith, ◌≡◌, ℕ, true, false, List, Ok, Err, Result, sym, refl, ap, ◌∙◌}
+use Rattle.std.proofs.lemmas.Bool.Decides.{nat_tests}
 use Rattle.tables.proofs.EitherOrder.{entered_commute}
 use Rattle.tables.proofs.Entries.{entered_found, entered_missing}
 use Rattle.tables.proofs.Insertions.{ascending_inserted, ascending_set}
 use Rattle.tables.proofs.Searches.{ascending_in_order}
 use Rattle.tables.specs.Finding.{Ascending, Found}
-use Rattle.tally.specs.Orders.{before_differs, before_one, before_transitive, neither_before, same_itself}
+use Rattle.tally.specs.Orders.{before_one, before_transitive}
 use Rattle.tally.specs.Keys.{before, same_key}
 use Rattle.tally.specs.declared.keys.PositionKey.{PositionKey}
 use Rattle.tables.proofs.Sides.{low_before_found, low_before_missing, low_found_after_put_in, low_found_after_write, low_missing_before_found, low_missing_before_missing}
-use Rattle.book.specs.Places.{Fits, Ordered, placed}
+use Rattle.book.specs.Places.{Ordered, placed}
 use Rattle.book.specs.Rows.{with_row}
 use Rattle.book.specs.declared.positions.Position.{Position}
 
@@ -19,12 +19,15 @@ placed_with_row : (rows : List Position) → Ascending (λ p. p.key) before rows
 placed_with_row rows asc row (Ok i) f = sym (entered_found (λ p. p.key) before before_one row.key (λ _. row) row rows asc i row f)
 placed_with_row rows asc row (Err i) f = sym (entered_missing (λ p. p.key) before before_one row.key (λ _. row) row rows asc i f)
 
-module _ (rows : List Position) (asc : Ascending (λ p. p.key) before rows) where
-  -- a place that a search answered is one of the rows, or where one can be put in
-  pub found_fits : (k : PositionKey) (r : Result ℕ ℕ) → Found (λ p. p.key) before rows k r → Fits r (length rows)
-  found_fits k (Ok i) f = f.0
-  found_fits k (Err i) f = f.0
+-- of two different keys, one stands before the other
+pub other_before : (j k : PositionKey) → same_key j k ≡ false → before j k ≡ false → before k j ≡ true
+other_before j k ne f = grind (arith, nat_tests)
 
+-- rows with different keys may be entered in either order
+with_rows_either_order : (first second : Position) → before first.key second.key ≡ true → (rows : List Position) → with_row first (with_row second rows) ≡ with_row second (with_row first rows)
+with_rows_either_order first second lt = entered_commute (λ p. p.key) before before_one before_transitive first.key second.key (λ _. first) (λ _. second) first second (λ e. grind (arith, nat_tests, lt, e)) refl refl (λ _ _. refl) (λ _ _. refl)
+
+module _ (rows : List Position) (asc : Ascending (λ p. p.key) before rows) where
   pub found_ordered : (j k : PositionKey) (d : Position) → before j k ≡ true → (r s : Result ℕ ℕ) → Found (λ p. p.key) before rows j r → Found (λ p. p.key) before rows k s → Ordered r s
   found_ordered j k d lt (Ok i) (Ok m) f g = low_before_found (λ p. p.key) before before_one before_transitive rows asc j k lt d i m f g
   found_ordered j k d lt (Ok i) (Err m) f g = low_before_missing (λ p. p.key) before before_one before_transitive rows asc j k lt d i m f g
@@ -44,13 +47,6 @@ module _ (rows : List Position) (asc : Ascending (λ p. p.key) before rows) wher
       placed_with_row (placed s second rows) (ascending_placed second s g) first r (low_found_after first second lt r s f g)
       ∙ ap (with_row first) (placed_with_row rows asc second s g)
 
--- of two different keys, one stands before the other
-pub other_before : (j k : PositionKey) → same_key j k ≡ false → before j k ≡ false → before k j ≡ true
-other_before j k ne f =
-    ⊎_elim (λ (b : before k j ≡ true). b)
-    (λ (g : before k j ≡ false). absurd (both_ways (same_key j k) ne (ap (λ x. same_key x k) (neither_before j k f g) ∙ same_itself k)))
-    (cases_Bool (before k j))
-
--- rows with different keys may be entered in either order
-pub with_rows_either_order : (first second : Position) → before first.key second.key ≡ true → (rows : List Position) → with_row first (with_row second rows) ≡ with_row second (with_row first rows)
-with_rows_either_order first second lt = entered_commute (λ p. p.key) before before_one before_transitive first.key second.key (λ _. first) (λ _. second) first second (λ e. both_ways (same_key first.key second.key) (before_differs first.key second.key lt) (ap (λ k. same_key k second.key) e ∙ same_itself second.key)) refl refl (λ _ _. refl) (λ _ _. refl)
+  -- two rows placed are two rows entered, in either order
+  pub placed_either_order : (first second : Position) → before first.key second.key ≡ true → (r s : Result ℕ ℕ) → Found (λ p. p.key) before rows first.key r → Found (λ p. p.key) before rows second.key s → placed r first (placed s second rows) ≡ with_row second (with_row first rows)
+  placed_either_order first second lt r s f g = placed_in_order first second lt r s f g ∙ with_rows_either_order first second lt rows

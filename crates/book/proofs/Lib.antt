@@ -1,4 +1,4 @@
-pub mod Parts
+pub mod Held
 pub mod Enterings
 pub mod Ascents
 pub mod Figures

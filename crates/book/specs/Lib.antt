@@ -1,5 +1,6 @@
 pub mod Rows
 pub mod Held
+pub mod Shown
 pub mod Places
 pub mod Records
 pub mod Calls

@@ -8,7 +8,7 @@ use Rattle.tally.specs.Tally.{World, after, answer}
 use Rattle.tally.specs.declared.calls.Call.{Call}
 use Rattle.tally.specs.declared.calls.Call.TheVariants.{List as ListCall, Trade, Propose, Preliminary, Withdraw, Notice, Failure, Assign}
 use Rattle.tally.specs.declared.keys.PositionKey.{PositionKey}
-use Rattle.book.specs.Held.{positions_in}
+use Rattle.book.specs.Held.{rows_in}
 use Rattle.book.specs.Records.{Recorded}
 use Rattle.book.specs.Rows.{bound_of}
 use Rattle.book.specs.declared.books.Book.{Book}
@@ -49,8 +49,8 @@ module _ {R : Type 0} (w : World R) where
   pub record Told (t : History) (call : Call R) (r : Option Answer) (old new : Book) : Type 0 where
     pub answered : r ≡ said t call
     pub recorded : Records (next t call) new
-    pub bound : AllByRecursion (λ p. bound_of p ≡ bound_amount (next t call) p.key) (positions_in new.positions)
-    pub rises : (k : PositionKey) → bound_at k (positions_in old.positions) ≤ bound_at k (positions_in new.positions)
+    pub bound : AllByRecursion (λ p. bound_of p ≡ bound_amount (next t call) p.key) (rows_in new.positions)
+    pub rises : (k : PositionKey) → bound_at k (rows_in old.positions) ≤ bound_at k (rows_in new.positions)
 
   -- The history after each call of a list in turn.
   abbrev pub history_of : History → List (Call R) → History

@@ -30,7 +30,7 @@ fresh k = record { key = k; net = pos 0; stance = Silent; assignment = 0 }
 
 -- What stands in a place of a table that holds no position.
 abbrev pub blank : Position
-blank = fresh (record { swaption = 0; participant = 0; client = 0; desk = 0 })
+blank = fresh (record { swaption = 0; party = record { participant = 0; client = 0; desk = 0 } })
 
 -- No position among the first so many rows has a stance amount or an assignment above its open position.
 abbrev pub AllFair : List Position → ℕ → Type 0

@@ -1,31 +1,35 @@
 // The rows of the table of refusals, by plain figures.
-ghost use Rattle.std.specs.Prelude.{◌≡◌, ◌+◌, ◌^◌, ◌<◌, Some};
-ghost use Rattle.tally.specs.Table.{list_answer, trade_rows};
+ghost use Rattle.std.specs.Prelude.{◌≡◌, ◌+◌, ◌^◌, ◌<◌};
+ghost use Rattle.tally.specs.Table.{trade_rows};
+ghost use Rattle.book.specs.Judging.{ListJudged};
 
+use crate::books::{MOST_POSITIONS, MOST_SWAPTIONS};
 use refusals::Refusal;
 use tally::deals::Deal;
 use tally::listings::Terms;
 
-const MOST_SWAPTIONS: usize = 16;
-
-const MOST_POSITIONS: usize = 256;
-
+// What the trades in a swaption may add up to. It limits another thing than the other limits of this value.
 const MOST_TRADED: u64 = 2_000_000_000;
 
-// The answer to a list: whether the number is known, and how many are listed.
-pub(crate) fn judge_list(terms: &Terms, known: bool, count: usize) -> Result<(), Refusal>
-    ensures { result ≡ list_answer (Some terms.now) known count }
+// Where a swaption of these terms belongs, if it may be listed: by the place that
+// a search answered for its number, and how many are listed.
+pub(crate) fn judge_list(
+    terms: &Terms,
+    place: Result<usize, usize>,
+    count: usize,
+) -> Result<usize, Refusal>
+    ensures { ListJudged terms.now place count result }
 {
     if !terms.is_sound() {
         return Err(Refusal::InvalidTerms);
     }
-    if known {
+    let Err(at) = place else {
         return Err(Refusal::AlreadyListed);
-    }
+    };
     if count >= MOST_SWAPTIONS {
         return Err(Refusal::BookFull);
     }
-    Ok(())
+    Ok(at)
 }
 
 // The answer to a sound trade in a listed swaption: what is traded in it, how

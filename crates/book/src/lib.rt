@@ -8,6 +8,8 @@ mod places;
 mod position_tables;
 mod positions;
 mod readers;
+mod row_changes;
+mod row_tables;
 mod runs;
 mod swaption_tables;
 mod swaptions;

@@ -1,12 +1,14 @@
 // One position of the book.
-ghost use Rattle.std.specs.Prelude.{◌≡◌, ◌≤◌, unsigned_abs};
+ghost use Rattle.std.specs.Prelude.{◌≡◌, ◌≤◌, Some, unsigned_abs};
 ghost use Rattle.book.specs.Rows.{bound_of, fresh, moved};
+ghost use Rattle.book.specs.Shown.{position_shown};
 
+use std::fmt;
 use tables::Keyed;
-use tally::keys::PositionKey;
+use tally::keys::{Party, PositionKey};
 use tally::stances::Stance;
 
-#[derive(Clone, Copy)]
+#[derive(Clone, Copy, PartialEq, Eq, Debug)]
 pub struct Position {
     pub(crate) key: PositionKey,
     pub(crate) net: i64,
@@ -25,14 +27,14 @@ impl Keyed for Position {
 }
 
 impl Position {
-    // What stands in a place of a table that holds no position.
+    // What stands in a place of a table that holds no position. It is no `Default`, since there is no default party.
     pub(crate) fn blank() -> Position {
-        Position::fresh(PositionKey {
-            swaption: 0,
+        let nobody = Party {
             participant: 0,
             client: 0,
             desk: 0,
-        })
+        };
+        Position::fresh(nobody.key_in(0))
     }
 
     // A position with a net of 0, silent, with nothing assigned.
@@ -54,10 +56,8 @@ impl Position {
         ensures { result ≡ moved change self.now }
     {
         Position {
-            key: self.key,
             net: self.net + change,
-            stance: self.stance,
-            assignment: self.assignment,
+            ..*self
         }
     }
 
@@ -94,10 +94,19 @@ impl Position {
         ensures { result ≡ bound_of self.now }
     {
         match self.stance {
-            Stance::Silent => 0,
-            Stance::Standing(_) => 0,
-            Stance::Noticed(amount) => amount as u64,
+            Stance::Silent | Stance::Standing(_) => 0,
+            Stance::Noticed(amount) => u64::from(amount),
             Stance::Whole => self.net.unsigned_abs(),
         }
+    }
+}
+
+// "7 1 0 2 -30 0 15": the key, the net, the bound amount and the assignment.
+impl fmt::Display for Position {
+    ghost output = { λ position. Some (position_shown position) };
+
+    fn fmt<W: fmt::Write>(&self, f: &mut fmt::Formatter<W>) -> fmt::Result {
+        let bound = self.bound();
+        write!(f, "{} {} {bound} {}", self.key, self.net, self.assignment)
     }
 }

@@ -1,12 +1,11 @@
 // A new book, and what is read of one.
 ghost use Rattle.std.specs.Prelude.{◌≡◌, []};
-ghost use Rattle.book.specs.Held.{positions_in, swaptions_in};
+ghost use Rattle.book.specs.Held.{rows_in};
 ghost use Rattle.book.specs.Promise.{Records};
 
 use crate::books::Book;
-use crate::position_tables::PositionTable;
 use crate::positions::Position;
-use crate::swaption_tables::SwaptionTable;
+use crate::row_tables::Table;
 use crate::swaptions::Swaption;
 
 impl Book {
@@ -15,22 +14,22 @@ impl Book {
         ensures { Records [] result }
     {
         Book {
-            swaptions: SwaptionTable::new(),
-            positions: PositionTable::new(),
+            swaptions: Table::new(Swaption::blank()),
+            positions: Table::new(Position::blank()),
             latest: 0,
         }
     }
 
     // The positions, in the order of their keys.
     pub fn positions(&self) -> &[Position]
-        ensures { result.now ≡ positions_in self.now.positions }
+        ensures { result.now ≡ rows_in self.now.positions }
     {
         self.positions.held()
     }
 
     // The swaptions, in the order of their numbers.
     pub fn swaptions(&self) -> &[Swaption]
-        ensures { result.now ≡ swaptions_in self.now.swaptions }
+        ensures { result.now ≡ rows_in self.now.swaptions }
     {
         self.swaptions.held()
     }

@@ -18,12 +18,7 @@ impl Book {
         match call {
             Call::List(listing) => Some(self.list(listing)),
             Call::Trade(deal) => Some(self.trade(deal)),
-            Call::Propose(_) => None,
-            Call::Preliminary(_) => None,
-            Call::Withdraw(_) => None,
-            Call::Notice(_) => None,
-            Call::Failure(_) => None,
-            Call::Assign(_) => None,
+            _ => None,
         }
     }
 }

@@ -6,7 +6,7 @@ use prices::{Kind, Payoff};
 use tables::Keyed;
 use tally::listings::{Blocks, Terms};
 
-#[derive(Clone, Copy)]
+#[derive(Clone, Copy, PartialEq, Eq, Debug)]
 pub struct Swaption {
     pub(crate) terms: Terms,
     // What accepted trades add up to.
@@ -29,7 +29,7 @@ impl Keyed for Swaption {
 }
 
 impl Swaption {
-    // What stands in a place of a table that holds no swaption.
+    // What stands in a place of a table that holds no swaption. It is no `Default`, since there is no default kind of swaption.
     pub(crate) fn blank() -> Swaption {
         Swaption::fresh(Terms {
             number: 0,
@@ -55,11 +55,8 @@ impl Swaption {
         ensures { result ≡ with_volume amount self.now }
     {
         Swaption {
-            terms: self.terms,
             traded: self.traded + amount,
-            proposed: self.proposed,
-            failed: self.failed,
-            assigned: self.assigned,
+            ..*self
         }
     }
 

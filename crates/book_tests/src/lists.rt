@@ -1,9 +1,10 @@
 // Swaptions that are listed, and those that are refused.
-use crate::checks::{check_numbers, figures, numbered};
+use crate::checks::{check_numbers, numbered};
 use crate::samples::{SOUND, book_with};
 use book::Book;
+use prices::{Kind, Payoff};
 use std::test::Fail;
-use tally::listings::{Blocks, Listing};
+use tally::listings::{Blocks, Listing, Terms};
 
 const SIXTEEN: [u16; 16] = [1, 2, 3, 4, 5, 6, 7, 8, 9, 10, 11, 12, 13, 14, 15, 16];
 
@@ -201,15 +202,35 @@ fn terms_as_listed(rt: HostRuntime) -> Result<(), Fail> {
         ..with_kind(2)
     };
     book.list(&receiver)?;
+    let payer_terms = Terms {
+        number: 7,
+        index: 3,
+        payoff: Payoff {
+            kind: Kind::Payer,
+            strike: 97_000,
+            minimum: 50_000,
+        },
+        blocks: Blocks {
+            exercise: 10,
+            assignment: 5,
+        },
+        cease: 100,
+        start: 200,
+        cutoff: 300,
+    };
+    let receiver_terms = Terms {
+        number: 9,
+        payoff: Payoff {
+            kind: Kind::Receiver,
+            ..payer_terms.payoff
+        },
+        ..payer_terms
+    };
     assert!(rt; book.swaptions().len() == 2);
-    assert_eq!(rt;
-        figures(&book.swaptions()[0]),
-        [7, 3, 1, 97_000, 10, 5, 50_000, 100, 200, 300, 0]
-    );
-    assert_eq!(rt;
-        figures(&book.swaptions()[1]),
-        [9, 3, 2, 97_000, 10, 5, 50_000, 100, 200, 300, 0]
-    );
+    assert_eq!(rt; book.swaptions()[0].terms(), payer_terms);
+    assert_eq!(rt; book.swaptions()[0].traded(), 0);
+    assert_eq!(rt; book.swaptions()[1].terms(), receiver_terms);
+    assert_eq!(rt; book.swaptions()[1].traded(), 0);
     Ok(())
 }
 

@@ -2,6 +2,7 @@
 use crate::checks::{check_same, numbered};
 use crate::samples::{ANNE, BERT, CARL, SALE, SOUND, book_with, trade_all};
 use book::Book;
+use refusals::Refusal;
 use std::process::Abort;
 use std::test::Fail;
 use tally::deals::Deal;
@@ -21,18 +22,24 @@ fn traded_book() -> Result<Book, Fail> {
     Ok(book)
 }
 
-fn check_trade_refused(rt: &impl Abort, deal: Deal, number: u32) -> Result<(), Fail> {
+// That a call on such a book is refused with a number, and leaves it as it was.
+fn check_refused<F>(rt: &impl Abort, call: F, number: u32) -> Result<(), Fail>
+where
+    F: FnOnce(&mut Book) -> Result<(), Refusal>,
+    requires { F.IsAlwaysCallable call }
+{
     let mut book = traded_book()?;
-    assert_eq!(rt; numbered(book.trade(&deal)), Err(number));
+    assert_eq!(rt; numbered(call(&mut book)), Err(number));
     check_same(rt, &book, &traded_book()?);
     Ok(())
 }
 
+fn check_trade_refused(rt: &impl Abort, deal: Deal, number: u32) -> Result<(), Fail> {
+    check_refused(rt, |book| book.trade(&deal), number)
+}
+
 fn check_list_refused(rt: &impl Abort, listing: Listing, number: u32) -> Result<(), Fail> {
-    let mut book = traded_book()?;
-    assert_eq!(rt; numbered(book.list(&listing)), Err(number));
-    check_same(rt, &book, &traded_book()?);
-    Ok(())
+    check_refused(rt, |book| book.list(&listing), number)
 }
 
 // By a buyer without a position in it, at a moment that would be the latest.

@@ -1,3 +1,3 @@
 pub mod Ranks
-mod SoundRows
 mod MarkPlaces
+mod LastRows

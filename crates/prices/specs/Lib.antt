@@ -3,3 +3,5 @@ pub mod Quotes
 pub mod Values
 pub mod WorkedValues
 pub mod LastPrices
+pub mod Kinds
+pub mod Refused

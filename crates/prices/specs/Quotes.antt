@@ -1,18 +1,14 @@
 -- The price that rows answer.
 use Rattle.std.specs.Prelude.{◌≡◌, ℕ, Bool, true, cond, ◌&&◌, List, [], ◌∷◌, Some, None, Option, ◌==◌, nat_le}
 use Rattle.std.specs.List.{ContainsAt as Has}
+use Rattle.std.specs.Option.{option_or}
 use Rattle.prices.specs.declared.marks.Mark.{Mark}
 use Rattle.prices.specs.declared.tapes.TapeRow.{TapeRow}
-
--- The first answer, or the second if there is no first.
-abbrev pub or_else : Option ℕ → Option ℕ → Option ℕ
-or_else (Some price) other = Some price
-or_else None other = other
 
 -- The price of the last row that applies, if one does.
 abbrev pub last_price : {X : Type 0} → (X → Bool) → (X → ℕ) → List X → Option ℕ
 last_price applies price [] = None
-last_price applies price (x ∷ xs) = or_else (last_price applies price xs) (cond (applies x) (Some (price x)) None)
+last_price applies price (x ∷ xs) = option_or (last_price applies price xs) (cond (applies x) (Some (price x)) None)
 
 -- A mark applies to an index if it is of that index.
 abbrev pub of_index : ℕ → Mark → Bool

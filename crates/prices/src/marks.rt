@@ -1,15 +1,15 @@
 // Marks: prices that hold at every moment.
-ghost use Rattle.std.specs.Prelude.{◌≡◌, length, IfSome, MatchResult};
+ghost use Rattle.std.specs.Prelude.{◌≡◌, IfSome};
 ghost use Rattle.prices.specs.Quotes.{marked, of_index, Priced};
-ghost use Rattle.prices.specs.Rows.{FirstUnsound, InRange, NeverFalling, Sound};
 ghost use Rattle.prices.specs.LastPrices.{last_in_range};
 
-use crate::rows::{RankedPrice, first_unsound};
+use crate::price_rows::PriceRows;
+use crate::rows::RankedPrice;
 use crate::sources::PriceSource;
 use tables::{Keyed, find};
 
 // The price of an index.
-#[derive(Clone, Copy)]
+#[derive(Clone, Copy, PartialEq, Eq, Debug)]
 pub struct Mark {
     pub index: u16,
     pub price: u32,
@@ -40,39 +40,20 @@ impl RankedPrice for Mark {
 }
 
 // Marks in the order of their indices, none above the highest price.
-#[derive(Drop)]
-pub struct Marks {
-    rows: Vec<Mark>,
-    ghost never_falling: { NeverFalling (λ mark. mark.index) rows.items (length rows.items) },
-    ghost in_range: { InRange (λ mark. mark.price) rows.items (length rows.items) },
-}
-
-impl Marks {
-    // Holds the rows if they are sound; else tells the place of the first that is not.
-    pub fn from_rows(rows: Vec<Mark>) -> Result<Marks, usize>
-        ensures { MatchResult result (λ marks. (marks.rows.items ≡ rows.items) × Sound (λ mark. mark.index) (λ mark. mark.price) rows.items) (FirstUnsound (λ mark. mark.index) (λ mark. mark.price) rows.items) }
-    {
-        match first_unsound(rows.as_slice()) {
-            Some(place) => Err(place),
-            None => Ok(Marks { rows }),
-        }
-    }
-}
+pub type Marks = PriceRows<Mark>;
 
 impl PriceSource for Marks {
     ghost quoted = { λ marks i _. marked marks.rows.items i };
 
     ghost in_range = { λ s i m p e. last_in_range (of_index i) (λ mark. mark.price) s.rows.items p s.in_range e };
 
-    // The price, which is that of a mark of the index.
+    // The price, which is that of a mark of the index. The trait's clauses stand here again, since it adds one of its own.
     fn price(&self, index: u16, _moment: u32) -> Option<u32>
         ensures answered { result ≡ marked self.now.rows.items index }
         ensures stays { self.exit.now ≡ self.entry.now }
         ensures held { IfSome result (Priced (of_index index) (λ mark. mark.price) self.now.rows.items) }
     {
-        match find(self.rows.as_slice(), &index) {
-            Ok(place) => Some(self.rows[place].price),
-            Err(_) => None,
-        }
+        let place = find(self.rows.as_slice(), &index).ok()?;
+        Some(self.rows[place].price)
     }
 }

@@ -1,6 +1,10 @@
 // Rows of prices as they are handed over.
-ghost use Rattle.std.specs.Prelude.{◌≡◌, ℕ, ◌&&◌, MatchOption, nat_le};
+ghost use Rattle.std.specs.Prelude.{◌≡◌, ℕ, ◌&&◌, MatchResult, Some, nat_le};
+ghost use Rattle.prices.specs.Refused.{unsound_shown};
 ghost use Rattle.prices.specs.Rows.{FirstUnsound, highest_price, Sound};
+
+use std::error::Error;
+use std::fmt;
 
 // The highest price, twice par.
 pub const HIGHEST_PRICE: u32 = 200_000;
@@ -25,18 +29,33 @@ fn may_follow(least: u32, rank: u32, price: u32) -> bool
     least <= rank && price <= HIGHEST_PRICE
 }
 
-// The place of the first row with a price above the highest, or with a rank
-// below that of the row before it.
-pub fn first_unsound<T: RankedPrice>(rows: &[T]) -> Option<usize>
-    ensures { MatchOption result (Sound T.ranked T.priced rows.now) (FirstUnsound T.ranked T.priced rows.now) }
+// The place of the first row that is not sound.
+#[derive(Clone, Copy, PartialEq, Eq, Debug)]
+pub struct UnsoundRow(pub usize);
+
+// by hand, here and at `Error`, since a derived text has no contract
+impl fmt::Display for UnsoundRow {
+    ghost output = { λ row. Some (unsound_shown row) };
+
+    fn fmt<W: fmt::Write>(&self, f: &mut fmt::Formatter<W>) -> fmt::Result {
+        write!(f, "the row at place {} is not sound", self.0)
+    }
+}
+
+impl Error for UnsoundRow {}
+
+// Refuses rows of which one has a price above the highest, or a rank below that
+// of the row before it.
+pub fn check_rows<T: RankedPrice>(rows: &[T]) -> Result<(), UnsoundRow>
+    ensures { MatchResult result (λ _. Sound T.ranked T.priced rows.now) (λ unsound. FirstUnsound T.ranked T.priced rows.now unsound.0) }
 {
     let mut least = 0;
     for (place, row) in rows.iter().enumerate() {
         let rank = row.rank();
         if !may_follow(least, rank, row.price()) {
-            return Some(place);
+            return Err(UnsoundRow(place));
         }
         least = rank;
     }
-    None
+    Ok(())
 }

@@ -1,8 +1,10 @@
 // Prices at the edges of what marks, tapes and payoffs say.
-use crate::marks::{Mark, Marks};
-use crate::payoffs::{Kind, Payoff};
+use crate::marks::Mark;
+use crate::payoffs::{Kind, Payoff, UnknownKind};
+use crate::price_rows::PriceRows;
+use crate::rows::RankedPrice;
 use crate::sources::PriceSource;
-use crate::tapes::{Tape, TapeRow};
+use crate::tapes::TapeRow;
 use std::alloc::Global;
 use std::test::Fail;
 
@@ -10,12 +12,13 @@ fn mark(index: u16, price: u32) -> Mark {
     Mark { index, price }
 }
 
-fn marks_of(heap: Global, rows: &[Mark]) -> Result<Marks, Fail> {
-    Ok(Marks::from_rows(Vec::from_slice(heap, rows)?)?)
+fn held<T: RankedPrice + Copy>(heap: Global, rows: &[T]) -> Result<PriceRows<T>, Fail> {
+    Ok(PriceRows::try_from(Vec::from_slice(heap, rows)?)?)
 }
 
-fn unsound_mark(heap: Global, rows: &[Mark]) -> Result<Option<usize>, Fail> {
-    Ok(Marks::from_rows(Vec::from_slice(heap, rows)?).err())
+fn unsound<T: RankedPrice + Copy>(heap: Global, rows: &[T]) -> Result<Option<usize>, Fail> {
+    let refused = PriceRows::try_from(Vec::from_slice(heap, rows)?).err();
+    Ok(refused.map(|row| row.0))
 }
 
 fn tape_row(index: u16, moment: u32, price: u32) -> TapeRow {
@@ -26,28 +29,20 @@ fn tape_row(index: u16, moment: u32, price: u32) -> TapeRow {
     }
 }
 
-fn tape_of(heap: Global, rows: &[TapeRow]) -> Result<Tape, Fail> {
-    Ok(Tape::from_rows(Vec::from_slice(heap, rows)?)?)
-}
-
-fn unsound_tape_row(heap: Global, rows: &[TapeRow]) -> Result<Option<usize>, Fail> {
-    Ok(Tape::from_rows(Vec::from_slice(heap, rows)?).err())
-}
-
 #[test]
 fn marks_answer_by_index(rt: HostRuntime) -> Result<(), Fail> {
-    let marks = marks_of(rt.alloc(), &[mark(2, 96_500), mark(4, 0), mark(6, 200_000)])?;
+    let marks = held(rt.alloc(), &[mark(2, 96_500), mark(4, 0), mark(6, 200_000)])?;
     assert_eq!(rt; marks.price(2, 0), Some(96_500));
     assert_eq!(rt; marks.price(4, 7), Some(0));
     assert_eq!(rt; marks.price(6, 7), Some(200_000));
     assert_eq!(rt; marks.price(5, 7), None);
-    assert_eq!(rt; marks_of(rt.alloc(), &[])?.price(5, 7), None);
+    assert_eq!(rt; held::<Mark>(rt.alloc(), &[])?.price(5, 7), None);
     Ok(())
 }
 
 #[test]
 fn a_repeated_mark_has_one_answer(rt: HostRuntime) -> Result<(), Fail> {
-    let marks = marks_of(
+    let marks = held(
         rt.alloc(),
         &[mark(2, 1), mark(4, 2), mark(4, 3), mark(6, 4)],
     )?;
@@ -58,13 +53,10 @@ fn a_repeated_mark_has_one_answer(rt: HostRuntime) -> Result<(), Fail> {
 
 #[test]
 fn unsound_marks_are_refused(rt: HostRuntime) -> Result<(), Fail> {
+    assert_eq!(rt; unsound(rt.alloc(), &[mark(2, 200_000), mark(2, 1)])?, None);
+    assert_eq!(rt; unsound(rt.alloc(), &[mark(2, 200_001)])?, Some(0));
     assert_eq!(rt;
-        unsound_mark(rt.alloc(), &[mark(2, 200_000), mark(2, 1)])?,
-        None
-    );
-    assert_eq!(rt; unsound_mark(rt.alloc(), &[mark(2, 200_001)])?, Some(0));
-    assert_eq!(rt;
-        unsound_mark(rt.alloc(), &[mark(2, 1), mark(3, 1), mark(2, 1)])?,
+        unsound(rt.alloc(), &[mark(2, 1), mark(3, 1), mark(2, 1)])?,
         Some(2)
     );
     Ok(())
@@ -78,7 +70,7 @@ fn a_tape_answers_what_was_known(rt: HostRuntime) -> Result<(), Fail> {
         tape_row(5, 20, 3),
         tape_row(5, 30, 4),
     ];
-    let tape = tape_of(rt.alloc(), &rows)?;
+    let tape = held(rt.alloc(), &rows)?;
     assert_eq!(rt; tape.price(5, 9), None);
     assert_eq!(rt; tape.price(5, 10), Some(1));
     assert_eq!(rt; tape.price(5, 19), Some(1));
@@ -93,15 +85,15 @@ fn a_tape_answers_what_was_known(rt: HostRuntime) -> Result<(), Fail> {
 #[test]
 fn unsound_tapes_are_refused(rt: HostRuntime) -> Result<(), Fail> {
     assert_eq!(rt;
-        unsound_tape_row(rt.alloc(), &[tape_row(9, 4, 200_000), tape_row(1, 4, 0)])?,
+        unsound(rt.alloc(), &[tape_row(9, 4, 200_000), tape_row(1, 4, 0)])?,
         None
     );
     assert_eq!(rt;
-        unsound_tape_row(rt.alloc(), &[tape_row(9, 4, 1), tape_row(9, 5, 200_001)])?,
+        unsound(rt.alloc(), &[tape_row(9, 4, 1), tape_row(9, 5, 200_001)])?,
         Some(1)
     );
     assert_eq!(rt;
-        unsound_tape_row(rt.alloc(), &[tape_row(1, 4, 1), tape_row(1, 3, 1)])?,
+        unsound(rt.alloc(), &[tape_row(1, 4, 1), tape_row(1, 3, 1)])?,
         Some(1)
     );
     Ok(())
@@ -158,4 +150,12 @@ fn the_largest_values_are_exact(rt: HostRuntime) {
         receiver.value(i64::MIN, u32::MAX),
         -39_614_081_247_908_796_759_917_199_360
     );
+}
+
+#[test]
+fn kinds_have_numbers(rt: HostRuntime) {
+    assert_eq!(rt; Kind::try_from(0), Err(UnknownKind(0)));
+    assert_eq!(rt; Kind::try_from(1), Ok(Kind::Payer));
+    assert_eq!(rt; Kind::try_from(2), Ok(Kind::Receiver));
+    assert_eq!(rt; Kind::try_from(3), Err(UnknownKind(3)));
 }

@@ -53,15 +53,15 @@ all_entered P key less k change new n c (x ∷ xs) a =
     cond_both (less k (key x)) _ _ (AllByRecursion P) (λ _. (n, a))
     (λ _. cond_both (less (key x) k) _ _ (AllByRecursion P) (λ _. (a.0, all_entered P key less k change new n c xs a.1)) (λ _. (c x a.0, a.1)))
 
--- the keys ascend after an entry
-module _ {X K : Type 0} (key : X → K) (less : K → K → Bool) (trans : Transitive less) (k : K) (change : X → X) (new : X) (named : key new ≡ k) (keeps : (x : X) → key (change x) ≡ key x) where
+-- first rows, and the others
+module _ {X K : Type 0} (key : X → K) (less : K → K → Bool) where
   -- a row before rows that all have greater keys than another
-  above_cons : (b : K) (x : X) (xs : List X) → less b (key x) ≡ true → Above key less xs b 0 → Above key less (x ∷ xs) b 0
+  pub above_cons : (b : K) (x : X) (xs : List X) → less b (key x) ≡ true → Above key less xs b 0 → Above key less (x ∷ xs) b 0
   above_cons b x xs lt above zero d le in' = lt
   above_cons b x xs lt above (suc i) d le in' = above i d (omega arith) (omega arith)
 
   -- the rows after the first
-  above_tail : (b : K) (x : X) (xs : List X) → Above key less (x ∷ xs) b 0 → Above key less xs b 0
+  pub above_tail : (b : K) (x : X) (xs : List X) → Above key less (x ∷ xs) b 0 → Above key less xs b 0
   above_tail b x xs above i d le in' = above (suc i) d (omega arith) (omega arith)
 
   -- a row before rows that all have greater keys
@@ -71,27 +71,29 @@ module _ {X K : Type 0} (key : X → K) (less : K → K → Bool) (trans : Trans
   ascending_cons x xs above asc (suc i) (suc j) d lt in' = asc i j d (omega arith) (omega arith)
 
   -- the first of rows whose keys ascend is below the others
-  ascending_head : (x : X) (xs : List X) → Ascending key less (x ∷ xs) → Above key less xs (key x) 0
+  pub ascending_head : (x : X) (xs : List X) → Ascending key less (x ∷ xs) → Above key less xs (key x) 0
   ascending_head x xs asc i d le in' = asc 0 (suc i) d (omega arith) (omega arith)
 
-  ascending_tail : (x : X) (xs : List X) → Ascending key less (x ∷ xs) → Ascending key less xs
+  pub ascending_tail : (x : X) (xs : List X) → Ascending key less (x ∷ xs) → Ascending key less xs
   ascending_tail x xs asc i j d lt in' = asc (suc i) (suc j) d (omega arith) (omega arith)
 
+-- the keys ascend after an entry
+module _ {X K : Type 0} (key : X → K) (less : K → K → Bool) (trans : Transitive less) (k : K) (change : X → X) (new : X) (named : key new ≡ k) (keeps : (x : X) → key (change x) ≡ key x) where
   -- what is less than the key and all rows is less than all rows after the entry
   above_entered : (b : K) (rows : List X) → less b k ≡ true → Above key less rows b 0 → Above key less (entered key less k change new rows) b 0
-  above_entered b [] lt above = above_cons b new [] (subst (λ a. less b a ≡ true) (sym named) lt) above
+  above_entered b [] lt above = above_cons key less b new [] (subst (λ a. less b a ≡ true) (sym named) lt) above
   above_entered b (x ∷ xs) lt above =
       cond_both (less k (key x)) _ _ (λ ys. Above key less ys b 0)
-      (λ _. above_cons b new (x ∷ xs) (subst (λ a. less b a ≡ true) (sym named) lt) above)
+      (λ _. above_cons key less b new (x ∷ xs) (subst (λ a. less b a ≡ true) (sym named) lt) above)
       (λ _. cond_both (less (key x) k) _ _ (λ ys. Above key less ys b 0)
-      (λ _. above_cons b x _ (above 0 x (omega arith) (omega arith)) (above_entered b xs lt (above_tail b x xs above)))
-      (λ _. above_cons b (change x) xs (subst (λ a. less b a ≡ true) (sym (keeps x)) (above 0 x (omega arith) (omega arith))) (above_tail b x xs above)))
+      (λ _. above_cons key less b x _ (above 0 x (omega arith) (omega arith)) (above_entered b xs lt (above_tail key less b x xs above)))
+      (λ _. above_cons key less b (change x) xs (subst (λ a. less b a ≡ true) (sym (keeps x)) (above 0 x (omega arith) (omega arith))) (above_tail key less b x xs above)))
 
   pub ascending_entered : (rows : List X) → Ascending key less rows → Ascending key less (entered key less k change new rows)
-  ascending_entered [] asc = ascending_cons new [] (λ i d le in'. absurd (omega arith)) asc
+  ascending_entered [] asc = ascending_cons key less new [] (λ i d le in'. absurd (omega arith)) asc
   ascending_entered (x ∷ xs) asc =
       cond_both (less k (key x)) _ _ (λ ys. Ascending key less ys)
-      (λ lt. ascending_cons new (x ∷ xs) (subst (λ a. Above key less (x ∷ xs) a 0) (sym named) (above_cons k x xs lt (λ i d le in'. trans _ _ _ lt (ascending_head x xs asc i d le in')))) asc)
+      (λ lt. ascending_cons key less new (x ∷ xs) (subst (λ a. Above key less (x ∷ xs) a 0) (sym named) (above_cons key less k x xs lt (λ i d le in'. trans _ _ _ lt (ascending_head key less x xs asc i d le in')))) asc)
       (λ _. cond_both (less (key x) k) _ _ (λ ys. Ascending key less ys)
-      (λ lt. ascending_cons x _ (above_entered (key x) xs lt (ascending_head x xs asc)) (ascending_entered xs (ascending_tail x xs asc)))
-      (λ _. ascending_cons (change x) xs (subst (λ a. Above key less xs a 0) (sym (keeps x)) (ascending_head x xs asc)) (ascending_tail x xs asc)))
+      (λ lt. ascending_cons key less x _ (above_entered (key x) xs lt (ascending_head key less x xs asc)) (ascending_entered xs (ascending_tail key less x xs asc)))
+      (λ _. ascending_cons key less (change x) xs (subst (λ a. Above key less xs a 0) (sym (keeps x)) (ascending_head key less x xs asc)) (ascending_tail key less x xs asc)))

@@ -1,8 +1,8 @@
 -- Two rows of different keys entered one after the other: the upper one leaves the lower one's place.
-use Rattle.std.proofs.Common.{◌≡◌, ℕ, ◌+◌, ◌-◌, ◌<◌, ◌≤◌, Bool, true, List, get_or, set, Ok, Err, Result, sym, ap, ◌∙◌, subst, ⊎_elim, arith}
-use Rattle.std.proofs.lemmas.List.Edits.{length-insert, get_or-insert_below, get_or-insert_at, get_or-insert_above}
-use Rattle.std.proofs.lemmas.List.{get_or-set_same, get_or-set_other, length-set}
-use Rattle.std.proofs.lemmas.Bool.{both_ways, cases_eq, cases_lt, cases_order}
+use Rattle.std.proofs.Common.{◌≡◌, ℕ, ◌+◌, ◌-◌, ◌<◌, ◌≤◌, Bool, true, List, get_or, set, Ok, Err, Result, ap, ◌∙◌, arith}
+use Rattle.std.proofs.lemmas.Grind.{elements}
+use Rattle.std.proofs.lemmas.List.Edits.{length-insert, get_or-insert_below}
+use Rattle.std.proofs.lemmas.List.{length-set}
 use Rattle.std.specs.List.{insert}
 use Rattle.tables.proofs.Comparisons.{equal_not_less, less_not_greater}
 use Rattle.tables.proofs.Searches.{ascending_in_order}
@@ -15,57 +15,26 @@ module _ {X K : Type 0} (key : X → K) (less : K → K → Bool) (one : Trichot
 
   -- the lower key's row stands before the upper key's
   pub low_before_found : (i j : ℕ) → Found key less rows lower (Ok i) → Found key less rows upper (Ok j) → i < j
-  low_before_found i j f g =
-      ⊎_elim (λ (h : i < j). h)
-      (λ (h : j ≤ i).
-      ⊎_elim
-      (λ (e : i ≡ j). absurd (both_ways (less lower upper) (equal_not_less less one lower upper (sym (f.1 d) ∙ ap (λ m. key (get_or rows m d)) e ∙ g.1 d)) lt))
-      (λ (ne : i ≡ j → ⊥).
-      let over : j < i = omega (arith, h) in
-      let more : less upper lower ≡ true = subst (λ a. less a lower ≡ true) (g.1 d) (subst (λ b. less (key (get_or rows j d)) b ≡ true) (f.1 d) (asc j i d over f.0)) in
-      absurd (both_ways (less lower upper) (less_not_greater less one upper lower more) lt))
-      (cases_eq i j))
-      (cases_lt i j)
+  low_before_found i j f g = grind (arith, lt, f.0, f.1 d, g.1 d, asc j i d, equal_not_less less one lower upper, less_not_greater less one upper lower)
 
   -- the lower key's row stands before the upper key's place
   pub low_before_missing : (i j : ℕ) → Found key less rows lower (Ok i) → Found key less rows upper (Err j) → i < j
-  low_before_missing i j f g =
-      ⊎_elim (λ (h : i < j). h)
-      (λ (h : j ≤ i).
-      let more : less upper lower ≡ true = subst (λ b. less upper b ≡ true) (f.1 d) ((g.1 order).1 i d h f.0) in
-      absurd (both_ways (less lower upper) (less_not_greater less one upper lower more) lt))
-      (cases_lt i j)
+  low_before_missing i j f g = grind (arith, lt, f.0, f.1 d, (g.1 order).1 i d, less_not_greater less one upper lower)
 
   -- the lower key's place is not after the upper key's row
   pub low_missing_before_found : (i j : ℕ) → Found key less rows lower (Err i) → Found key less rows upper (Ok j) → i ≤ j
-  low_missing_before_found i j f g =
-      ⊎_elim
-      (λ (h : j < i).
-      let under : less upper lower ≡ true = subst (λ a. less a lower ≡ true) (g.1 d) ((f.1 order).0 j d h) in
-      absurd (both_ways (less lower upper) (less_not_greater less one upper lower under) lt))
-      (λ (h : i ≤ j). h)
-      (cases_lt j i)
+  low_missing_before_found i j f g = grind (arith, lt, g.1 d, (f.1 order).0 j d, less_not_greater less one upper lower)
 
   -- the lower key's place is not after the upper key's place
   pub low_missing_before_missing : (i j : ℕ) → Found key less rows lower (Err i) → Found key less rows upper (Err j) → i ≤ j
   low_missing_before_missing i j f g =
-      ⊎_elim
-      (λ (h : j < i).
-      let under : less (key (get_or rows j d)) lower ≡ true = (f.1 order).0 j d h in
-      let over : less upper (key (get_or rows j d)) ≡ true = (g.1 order).1 j d (omega arith) (omega (arith, f.0)) in
-      absurd (both_ways (less lower upper) (less_not_greater less one upper lower (trans upper (key (get_or rows j d)) lower over under)) lt))
-      (λ (h : i ≤ j). h)
-      (cases_lt j i)
+      grind (arith, lt, f.0, (f.1 order).0 j d, (g.1 order).1 j d, trans upper (key (get_or rows j d)) lower, less_not_greater less one upper lower)
 
   module _ (new : X) (named : key new ≡ upper) where
     -- a row written under the upper key
     module _ (j : ℕ) (g : Found key less rows upper (Ok j)) where
       same_key_after_write : (m : ℕ) (e : X) → key (get_or (set rows j new) m e) ≡ key (get_or rows m e)
-      same_key_after_write m e =
-          ⊎_elim
-          (λ (at : m ≡ j). ap (λ n. key (get_or (set rows j new) n e)) at ∙ ap key (get_or-set_same rows j new e g.0) ∙ named ∙ sym (g.1 e) ∙ ap (λ n. key (get_or rows n e)) (sym at))
-          (λ (ne : m ≡ j → ⊥). ap key (get_or-set_other rows j m new e ne))
-          (cases_eq m j)
+      same_key_after_write m e = grind (arith, elements, named, g.0, g.1 e)
 
       pub low_found_after_write : (r : Result ℕ ℕ) → Found key less rows lower r → Found key less (set rows j new) lower r
       low_found_after_write (Ok i) f =
@@ -80,12 +49,7 @@ module _ {X K : Type 0} (key : X → K) (less : K → K → Bool) (one : Trichot
       above_put_in : (i : ℕ) → i ≤ j → Above key less rows lower i → Above key less (insert rows j new) lower i
       above_put_in i le above m e from in' =
           let long = length-insert rows j new g.0 in
-          ⊎_elim
-          (λ (at : m ≡ j). ap (λ n. less lower (key (get_or (insert rows j new) n e))) at ∙ ap (λ x. less lower (key x)) (get_or-insert_at rows j new e g.0) ∙ ap (less lower) named ∙ lt)
-          (⊎_elim
-          (λ under. ap (λ x. less lower (key x)) (get_or-insert_below rows j new e m under g.0) ∙ above m e from (omega (arith, g.0)))
-          (λ over. let back : m - 1 + 1 ≡ m = omega arith in ap (λ n. less lower (key (get_or (insert rows j new) n e))) (sym back) ∙ ap (λ x. less lower (key x)) (get_or-insert_above rows j new e (m - 1) (omega arith) g.0) ∙ above (m - 1) e (omega arith) (omega arith)))
-          (cases_order m j)
+          grind (arith, elements, g.0, named, lt, above m e, above (m - 1) e)
 
       pub low_found_after_put_in : (r : Result ℕ ℕ) → Found key less rows lower r → Found key less (insert rows j new) lower r
       low_found_after_put_in (Ok i) f =

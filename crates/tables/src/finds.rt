@@ -1,5 +1,5 @@
 // The search for a key among rows in the order of their keys.
-ghost use Rattle.std.specs.Prelude.{◌≡◌, ◌≤◌, length};
+ghost use Rattle.std.specs.Prelude.{◌≡◌, ◌≤◌, length, not};
 ghost use Rattle.tables.specs.Finding.{Above, Answer, Found, InOrder, UpTo};
 
 use crate::keys::{Key, Keyed};
@@ -7,6 +7,7 @@ use std::cmp::Ordering;
 
 // The place of a row with the key, or else the place where one belongs. In
 // rows that are in order only one answer is right, so it is always the same.
+// Rows and key are handed over apart, as std's searches take them.
 pub fn find<T: Keyed>(rows: &[T], key: &T::Key) -> Result<usize, usize>
     ensures found { Found T.named T.Key.Key.less rows.now key.now result }
     ensures same { InOrder T.named T.Key.Key.less rows.now → (other : Answer) → Found T.named T.Key.Key.less rows.now key.now other → result ≡ other }
@@ -15,6 +16,7 @@ pub fn find<T: Keyed>(rows: &[T], key: &T::Key) -> Result<usize, usize>
 }
 
 // The same search: it ends at the last row with the key if there are several.
+// not `binary_search_by_key`, which answers any of several rows with the key: here it is always the last
 fn last_with<T: Keyed>(rows: &[T], key: &T::Key) -> Result<usize, usize>
     ensures { Found T.named T.Key.Key.less rows.now key.now result }
 {
@@ -22,7 +24,7 @@ fn last_with<T: Keyed>(rows: &[T], key: &T::Key) -> Result<usize, usize>
     if end == 0 {
         return Err(0);
     }
-    match rows[end - 1].key().compare(key) {
+    match rows[end - 1].key().cmp(key) {
         Ordering::Equal => Ok(end - 1),
         _ => Err(end),
     }
@@ -33,14 +35,12 @@ fn end_of<T: Keyed>(rows: &[T], key: &T::Key) -> usize
     ensures within { result ≤ length rows.now }
     ensures parts { InOrder T.named T.Key.Key.less rows.now → UpTo T.named T.Key.Key.less rows.now key.now result × Above T.named T.Key.Key.less rows.now key.now result }
 {
-    let mut low = 0;
-    let mut high = rows.len();
-    while low < high {
-        let mid = low + (high - low) / 2;
-        match rows[mid].key().compare(key) {
-            Ordering::Greater => high = mid,
-            _ => low = mid + 1,
-        }
-    }
-    low
+    rows.partition_point(|row| is_up_to(row, key))
+}
+
+// Whether the key of a row is not greater than a key.
+fn is_up_to<T: Keyed>(row: &T, key: &T::Key) -> bool
+    ensures { result ≡ not (T.Key.Key.less key.now (T.named row.now)) }
+{
+    row.key() <= *key
 }

@@ -1,19 +1,16 @@
 // Keys, and records that have one.
 ghost use Rattle.std.specs.Prelude.{◌≡◌, Bool, true, nat_lt};
 ghost use Rattle.std.specs.Ordering.{MatchOrdering};
-ghost use Rattle.tables.specs.Orders.{ExactlyOne};
+ghost use Rattle.tables.specs.Orders.{ExactlyOne, nat_one, nat_transitive};
 ghost use Rattle.std.proofs.Common.{rules};
 
-use std::cmp::Ordering;
-
 // A kind of key, with its order.
-pub trait Key: Copy {
+pub trait Key: Copy + Ord {
     // Whether one key is less than another.
     ghost less: { Self → Self → Bool };
 
-    // How the key stands to another.
-    fn compare(&self, other: &Self) -> Ordering
-        ensures { MatchOrdering result (less self.now other.now ≡ true) (self.now ≡ other.now) (less other.now self.now ≡ true) };
+    // The order of the keys is that of `less`.
+    ghost ordered: { (a b : Self) → MatchOrdering (Self.cmp a b) (less a b ≡ true) (a ≡ b) (less b a ≡ true) };
 
     // Of less, equal and greater exactly one holds.
     ghost exactly_one: { (a b : Self) → ExactlyOne (less a b) (a ≡ b) (less b a) };
@@ -35,11 +32,9 @@ pub trait Keyed {
 impl Key for u16 {
     ghost less = { nat_lt };
 
-    ghost exactly_one = { Prim.search rules };
+    ghost ordered = { Prim.search rules };
 
-    ghost transitive = { Prim.search rules };
+    ghost exactly_one = { nat_one };
 
-    fn compare(&self, other: &u16) -> Ordering {
-        self.cmp(other)
-    }
+    ghost transitive = { nat_transitive };
 }

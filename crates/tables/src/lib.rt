@@ -8,7 +8,7 @@ mod keys;
 mod tests;
 mod totals;
 
-pub use changes::{insert_at, insert_two, replace};
+pub use changes::{NoSuchPlace, insert_at, insert_two, replace};
 pub use finds::find;
 pub use keys::{Key, Keyed};
 pub use totals::{Counted, total};

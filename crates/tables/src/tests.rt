@@ -1,5 +1,5 @@
 // Rows with a key and an amount.
-use crate::changes::{insert_at, replace};
+use crate::changes::{NoSuchPlace, insert_at, replace};
 use crate::finds::find;
 use crate::keys::Keyed;
 use crate::totals::{Counted, total};
@@ -68,22 +68,22 @@ fn repeated_keys(rt: HostRuntime) {
 #[test]
 fn rows_put_in(rt: HostRuntime) {
     let mut numbers = [1, 2, 3];
-    assert_eq!(rt; insert_at(&mut numbers, 0, 7), true);
+    assert_eq!(rt; insert_at(&mut numbers, 0, 7), Ok(()));
     assert_eq!(rt; numbers, [7, 1, 2]);
-    assert_eq!(rt; insert_at(&mut numbers, 1, 8), true);
+    assert_eq!(rt; insert_at(&mut numbers, 1, 8), Ok(()));
     assert_eq!(rt; numbers, [7, 8, 1]);
-    assert_eq!(rt; insert_at(&mut numbers, 2, 9), true);
+    assert_eq!(rt; insert_at(&mut numbers, 2, 9), Ok(()));
     assert_eq!(rt; numbers, [7, 8, 9]);
-    assert_eq!(rt; insert_at(&mut numbers, 3, 5), false);
+    assert_eq!(rt; insert_at(&mut numbers, 3, 5), Err(NoSuchPlace));
     assert_eq!(rt; numbers, [7, 8, 9]);
 }
 
 #[test]
 fn row_replaced(rt: HostRuntime) {
     let mut numbers = [1, 2, 3];
-    assert_eq!(rt; replace(&mut numbers, 1, 7), true);
+    assert_eq!(rt; replace(&mut numbers, 1, 7), Ok(()));
     assert_eq!(rt; numbers, [1, 7, 3]);
-    assert_eq!(rt; replace(&mut numbers, 3, 5), false);
+    assert_eq!(rt; replace(&mut numbers, 3, 5), Err(NoSuchPlace));
     assert_eq!(rt; numbers, [1, 7, 3]);
 }
 

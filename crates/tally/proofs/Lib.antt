@@ -1,4 +1,3 @@
-pub mod Acceptances
 pub mod ListedTerms
 pub mod Quiet
 pub mod Unlisted

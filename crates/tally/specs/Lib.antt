@@ -6,3 +6,4 @@ pub mod History
 pub mod Table
 pub mod Tally
 pub mod Orders
+pub mod Shown

@@ -1,16 +1,13 @@
 -- The terms of a swaption: which are sound, and which a listing states.
-use Rattle.std.specs.Prelude.{ℕ, Bool, cond, ◌&&◌, Some, None, Option, ◌==◌, nat_le, nat_lt}
+use Rattle.std.specs.Prelude.{◌≡◌, Bool, ◌&&◌, Some, None, MatchResult, Option, Result, nat_le, nat_lt}
 use Rattle.std.specs.Option.{option_map}
+use Rattle.prices.specs.Kinds.{kind_of}
 use Rattle.prices.specs.declared.payoffs.Kind.{Kind}
-use Rattle.prices.specs.declared.payoffs.Kind.TheVariants.{Payer, Receiver}
 use Rattle.prices.specs.declared.payoffs.Payoff.{Payoff}
+use Rattle.prices.specs.declared.payoffs.UnknownKind.{UnknownKind}
 use Rattle.tally.specs.declared.listings.Blocks.{Blocks}
 use Rattle.tally.specs.declared.listings.Listing.{Listing}
 use Rattle.tally.specs.declared.listings.Terms.{Terms}
-
--- The kind that a number stands for: 1 payer, 2 receiver, any other none.
-abbrev pub kind_of : ℕ → Option Kind
-kind_of number = cond (number == 1) (Some Payer) (cond (number == 2) (Some Receiver) None)
 
 -- The terms that a listing states, with its kind known.
 abbrev pub with_kind : Listing → Kind → Terms
@@ -27,6 +24,10 @@ with_kind l kind = record {
 -- The terms that a listing states; none if its kind is neither payer nor receiver.
 abbrev pub terms_of : Listing → Option Terms
 terms_of l = option_map (with_kind l) (kind_of l.kind)
+
+-- The result is the terms that the listing states, or holds the number of a kind that there is not.
+abbrev pub Stated : Listing → Result Terms UnknownKind → Type 0
+Stated l result = MatchResult result (λ terms. terms_of l ≡ Some terms) (λ unknown. (terms_of l ≡ None) × (unknown.0 ≡ l.kind))
 
 -- Whether an exercise block, where 0 means that none is given, and an assignment block are in their ranges.
 abbrev pub sound_blocks : Blocks → Bool

@@ -4,21 +4,23 @@ use crate::keys::Party;
 use crate::listings::Listing;
 
 // Who speaks for a position.
-#[derive(Clone, Copy)]
+#[derive(Clone, Copy, PartialEq, Eq, Debug)]
 pub struct Submitter {
     pub participant: u16,
     pub client: u16,
 }
 
 // That buyers in the money stand with their whole positions.
-#[derive(Clone, Copy)]
+#[derive(Clone, Copy, PartialEq, Eq, Debug)]
 pub struct Proposal {
     pub swaption: u16,
     pub moment: u32,
 }
 
-// A preliminary or a final notice: how much of a position is exercised.
-#[derive(Clone, Copy)]
+// A preliminary or a final notice: how much of a position is exercised. Here and in
+// a withdrawal the swaption stands beside the party and not in a `PositionKey`, as in
+// a trade, which names it once for two parties: all calls are handed over alike.
+#[derive(Clone, Copy, PartialEq, Eq, Debug)]
 pub struct ExerciseNotice {
     pub swaption: u16,
     pub position: Party,
@@ -28,7 +30,7 @@ pub struct ExerciseNotice {
 }
 
 // That a preliminary notice is taken back.
-#[derive(Clone, Copy)]
+#[derive(Clone, Copy, PartialEq, Eq, Debug)]
 pub struct Withdrawal {
     pub swaption: u16,
     pub position: Party,
@@ -37,14 +39,14 @@ pub struct Withdrawal {
 }
 
 // The price source that a failure names.
-#[derive(Clone, Copy)]
+#[derive(Clone, Copy, PartialEq, Eq, Debug)]
 pub enum SourceName {
     Marks,
     Tape,
 }
 
 // That the exercise system failed, so that whoever is in the money is exercised.
-#[derive(Clone, Copy)]
+#[derive(Clone, Copy, PartialEq, Eq, Debug)]
 pub struct SystemFailure {
     pub swaption: u16,
     pub source: SourceName,

@@ -5,7 +5,7 @@ ghost use Rattle.tally.specs.Deals.{buyer_of, seller_of, sound_deal};
 use crate::keys::{Party, PositionKey};
 
 // A trade as it comes from outside: any values.
-#[derive(Clone, Copy)]
+#[derive(Clone, Copy, PartialEq, Eq, Debug)]
 pub struct Deal {
     pub swaption: u16,
     pub buyer: Party,
@@ -14,6 +14,7 @@ pub struct Deal {
     pub moment: u32,
 }
 
+// The most that one trade may be. It limits another thing than the other limits of this value.
 const LARGEST_TRADE: i64 = 2_000_000_000;
 
 impl Deal {
@@ -38,8 +39,7 @@ impl Deal {
         self.swaption >= 1
             && self.buyer.participant >= 1
             && self.seller.participant >= 1
-            && self.amount >= 1
-            && self.amount <= LARGEST_TRADE
-            && !self.buyer.is(&self.seller)
+            && (1..=LARGEST_TRADE).contains(&self.amount)
+            && self.buyer != self.seller
     }
 }

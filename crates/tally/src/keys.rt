@@ -1,25 +1,26 @@
 // Who holds a position, and the key of a position.
-ghost use Rattle.std.specs.Prelude.{◌≡◌};
-ghost use Rattle.tally.specs.Keys.{before, key_in, same_party};
-ghost use Rattle.tally.specs.Orders.{before_transitive};
+ghost use Rattle.std.specs.Prelude.{◌≡◌, Some};
+ghost use Rattle.tally.specs.Keys.{before, key_in};
+ghost use Rattle.tally.specs.Orders.{before_one, before_transitive};
+ghost use Rattle.tally.specs.Shown.{key_shown, party_shown};
 ghost use Rattle.std.proofs.Common.{rules};
 
-use std::cmp::Ordering;
+use std::fmt;
 use tables::Key;
 
-#[derive(Clone, Copy)]
+// Parties stand in the order of their fields: participant, client and desk.
+#[derive(Clone, Copy, PartialEq, Eq, PartialOrd, Ord, Debug)]
 pub struct Party {
     pub participant: u16,
     pub client: u16,
     pub desk: u16,
 }
 
-#[derive(Clone, Copy)]
+// Keys stand in the order of their fields: by swaption, then by party.
+#[derive(Clone, Copy, PartialEq, Eq, PartialOrd, Ord, Debug)]
 pub struct PositionKey {
     pub swaption: u16,
-    pub participant: u16,
-    pub client: u16,
-    pub desk: u16,
+    pub party: Party,
 }
 
 impl Party {
@@ -29,31 +30,7 @@ impl Party {
     {
         PositionKey {
             swaption,
-            participant: self.participant,
-            client: self.client,
-            desk: self.desk,
-        }
-    }
-
-    // Whether the two are one party.
-    pub fn is(&self, other: &Party) -> bool
-        ensures { result ≡ same_party self.now other.now }
-    {
-        self.participant == other.participant
-            && self.client == other.client
-            && self.desk == other.desk
-    }
-}
-
-impl PositionKey {
-    // Whether the key stands before another.
-    pub fn is_before(&self, other: &PositionKey) -> bool
-        ensures { result ≡ before self.now other.now }
-    {
-        match self.compare(other) {
-            Ordering::Less => true,
-            Ordering::Equal => false,
-            Ordering::Greater => false,
+            party: *self,
         }
     }
 }
@@ -61,21 +38,27 @@ impl PositionKey {
 impl Key for PositionKey {
     ghost less = { before };
 
-    ghost exactly_one = { Prim.search rules };
+    ghost ordered = { Prim.search rules };
+
+    ghost exactly_one = { before_one };
 
     ghost transitive = { before_transitive };
+}
 
-    // By swaption, then participant, client and desk.
-    fn compare(&self, other: &PositionKey) -> Ordering {
-        if self.swaption != other.swaption {
-            return self.swaption.cmp(&other.swaption);
-        }
-        if self.participant != other.participant {
-            return self.participant.cmp(&other.participant);
-        }
-        if self.client != other.client {
-            return self.client.cmp(&other.client);
-        }
-        self.desk.cmp(&other.desk)
+// "1 0 2": the participant, the client and the desk.
+impl fmt::Display for Party {
+    ghost output = { λ party. Some (party_shown party) };
+
+    fn fmt<W: fmt::Write>(&self, f: &mut fmt::Formatter<W>) -> fmt::Result {
+        write!(f, "{} {} {}", self.participant, self.client, self.desk)
+    }
+}
+
+// "7 1 0 2": the swaption, then the party.
+impl fmt::Display for PositionKey {
+    ghost output = { λ key. Some (key_shown key) };
+
+    fn fmt<W: fmt::Write>(&self, f: &mut fmt::Formatter<W>) -> fmt::Result {
+        write!(f, "{} {}", self.swaption, self.party)
     }
 }

@@ -1,22 +1,25 @@
 // A swaption's terms, as they are handed over and as they are once checked.
 ghost use Rattle.std.specs.Prelude.{◌≡◌};
-ghost use Rattle.tally.specs.Listings.{kind_of, sound_blocks, sound_payoff, sound_terms, terms_of};
+ghost use Rattle.tally.specs.Listings.{Stated, sound_blocks, sound_payoff, sound_terms};
 
-use prices::{Kind, Payoff};
+use assignment::MOST_BLOCK;
+use prices::{HIGHEST_PRICE, Kind, Payoff, UnknownKind};
 
-// The block that amounts are exercised in, 0 if none is given, and the block
-// that they are assigned in.
-#[derive(Clone, Copy)]
+// The block that amounts are exercised in, and the block that they are assigned
+// in. Where no exercise block is given it is 0 and not an `Option`, since that is
+// how a listing is handed over, and it then counts as 1.
+#[derive(Clone, Copy, PartialEq, Eq, Debug)]
 pub struct Blocks {
     pub exercise: u32,
     pub assignment: u32,
 }
 
 // Terms as they come from outside: any values.
-#[derive(Clone, Copy)]
+#[derive(Clone, Copy, PartialEq, Eq, Debug)]
 pub struct Listing {
     pub number: u16,
     pub index: u16,
+    // A number and no kind: whoever lists may hand over any, and what stands for none is refused.
     pub kind: u16,
     pub strike: u32,
     pub blocks: Blocks,
@@ -26,7 +29,7 @@ pub struct Listing {
     pub cutoff: u32,
 }
 
-#[derive(Clone, Copy)]
+#[derive(Clone, Copy, PartialEq, Eq, Debug)]
 pub struct Terms {
     pub number: u16,
     pub index: u16,
@@ -37,29 +40,17 @@ pub struct Terms {
     pub cutoff: u32,
 }
 
-const HIGHEST_PRICE: u32 = 200_000;
-
-const LARGEST_BLOCK: u32 = 2_000_000_000;
+// The largest block to exercise in; the largest to assign in is the rules', and another thing.
+const LARGEST_EXERCISE_BLOCK: u32 = 2_000_000_000;
 
 const LARGEST_MINIMUM: u64 = 400_000_000_000_000;
-
-// The kind that a number stands for, if any.
-pub fn kind_by_number(number: u16) -> Option<Kind>
-    ensures { result ≡ kind_of number }
-{
-    match number {
-        1 => Some(Kind::Payer),
-        2 => Some(Kind::Receiver),
-        _ => None,
-    }
-}
 
 impl Blocks {
     // Whether both are in their ranges.
     pub fn are_sound(&self) -> bool
         ensures { result ≡ sound_blocks self.now }
     {
-        self.exercise <= LARGEST_BLOCK && self.assignment >= 1 && self.assignment <= LARGEST_BLOCK
+        self.exercise <= LARGEST_EXERCISE_BLOCK && (1..=MOST_BLOCK).contains(&self.assignment)
     }
 }
 
@@ -83,26 +74,26 @@ impl Terms {
     }
 }
 
-impl Listing {
-    // The terms that it states, if its kind is one.
-    pub fn terms(&self) -> Option<Terms>
-        ensures { result ≡ terms_of self.now }
-    {
-        match kind_by_number(self.kind) {
-            None => None,
-            Some(kind) => Some(Terms {
-                number: self.number,
-                index: self.index,
-                payoff: Payoff {
-                    kind,
-                    strike: self.strike,
-                    minimum: self.minimum,
-                },
-                blocks: self.blocks,
-                cease: self.cease,
-                start: self.start,
-                cutoff: self.cutoff,
-            }),
-        }
+// The terms that a listing states.
+impl TryFrom<Listing> for Terms {
+    type Error = UnknownKind;
+
+    ghost try_from_gives = { Stated };
+
+    fn try_from(listing: Listing) -> Result<Self, UnknownKind> {
+        let kind = Kind::try_from(listing.kind)?;
+        Ok(Terms {
+            number: listing.number,
+            index: listing.index,
+            payoff: Payoff {
+                kind,
+                strike: listing.strike,
+                minimum: listing.minimum,
+            },
+            blocks: listing.blocks,
+            cease: listing.cease,
+            start: listing.start,
+            cutoff: listing.cutoff,
+        })
     }
 }

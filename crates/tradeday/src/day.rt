@@ -4,7 +4,7 @@ use tally::deals::Deal;
 use tally::keys::Party;
 use tally::listings::{Blocks, Listing};
 
-// A payer swaption with the usual terms; trading ceases at 100.
+// A swaption with the usual terms; trading ceases at 100.
 fn list(number: u16, kind: u16) -> Call<()> {
     Call::List(Listing {
         number,

@@ -4,19 +4,31 @@
 
 mod day;
 
-use book::{Outcome, Position, run};
+use book::run;
 use refusals::Refusal;
+use std::fmt;
 use tally::calls::Call;
 
-// What was answered: 0 if the call was accepted, else the refusal's number.
-fn number_of(answer: &Result<(), Refusal>) -> u32 {
-    match answer {
-        Ok(()) => 0,
-        Err(refusal) => refusal.number(),
+// What a call was answered: 0 if it was accepted, else the refusal's number.
+#[derive(Clone, Copy)]
+struct Answered(Result<(), Refusal>);
+
+impl fmt::Display for Answered {
+    fn fmt<W: fmt::Write>(&self, f: &mut fmt::Formatter<W>) -> fmt::Result {
+        match self.0 {
+            Ok(()) => write!(f, "0"),
+            Err(refusal) => write!(f, "{}", refusal.number()),
+        }
     }
 }
 
-fn print_call(rt: &HostRuntime, place: usize, call: &Call<()>, answer: u32) -> anyhow::Result<()> {
+// The text of a call is this program's own, and so no `Display` of `Call`.
+fn print_call(
+    rt: &HostRuntime,
+    place: u64,
+    call: &Call<()>,
+    answer: &Answered,
+) -> anyhow::Result<()> {
     match call {
         Call::List(listing) => println!(rt; "{place}: list {}: {answer}", listing.number)?,
         Call::Trade(deal) => println!(rt;
@@ -28,30 +40,15 @@ fn print_call(rt: &HostRuntime, place: usize, call: &Call<()>, answer: u32) -> a
     Ok(())
 }
 
-fn print_position(rt: &HostRuntime, position: &Position) -> anyhow::Result<()> {
-    let key = position.holder();
-    println!(rt;
-        "position {} {} {} {} {} {} {}",
-        key.swaption,
-        key.participant,
-        key.client,
-        key.desk,
-        position.net(),
-        position.bound(),
-        position.assignment(),
-    )?;
-    Ok(())
-}
-
 fn print_day(rt: &HostRuntime, calls: &[Call<()>]) -> anyhow::Result<()> {
     let outcome = run(rt.alloc(), calls)?;
-    for (i, call) in calls.iter().enumerate() {
-        if let Some(Some(answer)) = outcome.answers.get(i) {
-            print_call(rt, i + 1, call, number_of(answer))?;
+    for ((call, answer), place) in calls.iter().zip(&outcome.answers).zip(1u64..) {
+        if let Some(answer) = answer {
+            print_call(rt, place, call, &Answered(*answer))?;
         }
     }
     for position in outcome.book.positions() {
-        print_position(rt, position)?;
+        println!(rt; "position {position}")?;
     }
     Ok(())
 }

@@ -1,5 +1,5 @@
-use Rattle.std.proofs.Common.{◌+◌, vec_items, sym, subst}
-use Rattle.book.proofs.CallByCall.{Sofar, ended, one_more}
+use Rattle.std.proofs.Common.{vec_items}
+use Rattle.book.proofs.CallByCall.{ended, one_more}
 use Rattle.book.proofs.runs.run.Goals as goal
 
 pub loop-call-preserved : goal.loop-call-preserved
@@ -8,7 +8,7 @@ loop-call-preserved g c w =
     let i = c.loop-call.call-index in
     let s = c.loop-call.invariant w in
     let next = one_more w c.new-book.result calls i c.call-item.result (vec_items c.loop-call.answers) c.apply-answer.result c.loop-call.book c.apply-answer.new.self c.loop-call-test.true c.call-item.is s (c.apply-answer.ensures w _ s.recorded) in
-    subst (λ rs. Sofar w c.new-book.result calls (i + 1) rs c.apply-answer.new.self) (sym c.in_ok-push.ensures.items) next
+    rw c.in_ok-push.ensures.items next
 
 pub returns : goal.returns
 returns g c w = ended w c.new-book.result c.args.calls.now c.loop-call.call-index (vec_items c.loop-call.answers) c.loop-call.book c.loop-call-test.false (c.loop-call.invariant w)

@@ -1,67 +1,40 @@
-use Rattle.std.proofs.Common.{◌≡◌, ℕ, ltb, ◌∷◌, Some, sym, refl, ap, ◌∙◌, subst, arith}
+use Rattle.std.proofs.Common.{arith, refl, ◌≡◌, ◌∷◌, Some, Ok, Err, sym, subst, rules}
 use mathlib.Core.Logic.{∥∥₁_map}
-use Rattle.std.specs.List.{insert}
-use Rattle.tables.specs.Finding.{Found}
-use Rattle.tally.proofs.Acceptances.{accepted_list}
 use Rattle.tally.specs.History.{listed}
-use Rattle.tally.specs.Table.{accepted, list_answer}
-use Rattle.book.proofs.JudgedLists.{book_judges_list, book_puts_in_place}
+use Rattle.tally.specs.Table.{accepted}
+use Rattle.book.proofs.JudgedLists.{list_judged, list_puts_in}
 use Rattle.book.proofs.RecordedLists.{list_recorded}
 use Rattle.book.proofs.books.Book.list.Goals as goal
-use Rattle.book.specs.Calls.{list_says, with_stated}
-use Rattle.book.specs.Held.{swaptions_in}
+use Rattle.book.specs.Held.{rows_in}
+use Rattle.book.specs.Judging.{ListJudged}
 use Rattle.book.specs.Rows.{with_swaption}
 
-pub returns-in-Err : goal.returns-in-Err
-returns-in-Err c =
-    let book = c.args.self.now in
-    let found = c.place_of-place.ensures in
-    let terms = c.in-Some.terms in
-    record {
-      answer =
-          sym c.in-Err.is ∙ c.judge_list.ensures
-          ∙ ap (λ b. list_answer (Some terms) b book.swaptions.count) c.is_ok.ensures.value
-          ∙ book_judges_list book terms found.size c.place_of-place.result found.found
-          ∙ ap (list_says (swaptions_in book.swaptions)) (sym c.in-Some.is ∙ c.terms.ensures);
-      swaptions = refl;
-      positions = refl;
-      latest = refl;
-      refused = λ _. refl;
-    }
+pub returns-in_err-at-clause-answer : goal.returns-in_err-at-clause-answer
+returns-in_err-at-clause-answer c =
+    let refusal = c.in_err-at.field-0.0 in
+    let was : c.judge_list.result ≡ Err refusal = search rules in
+    let is : c.from_residual.result ≡ Err refusal = search rules in
+    list_judged c.args.self.now c.in-Ok.terms c.place_of-place.result c.place_of-place.ensures _ c.from_residual.result (rw c.in-Ok.is at c.try_from.ensures) (grind (arith, is, subst (ListJudged c.in-Ok.terms c.place_of-place.result c.args.self.now.swaptions.count) was c.judge_list.ensures))
 
 pub invariant_of-self : goal.invariant_of-self
 invariant_of-self c =
     let book = c.args.self.now in
-    let rows = swaptions_in book.swaptions in
-    let found = c.place_of-place.ensures in
-    let terms = c.in-Some.terms in
-    let says : list_says rows (Some terms) ≡ accepted = sym (c.judge_list.ensures ∙ ap (λ b. list_answer (Some terms) b book.swaptions.count) c.is_ok.ensures.value ∙ book_judges_list book terms found.size c.place_of-place.result found.found) ∙ c.in_default-judge_list.is in
-    let missing = subst (Found (λ s. s.terms.number) ltb rows terms.number) c.in-Err-place.is found.found in
-    let is : swaptions_in c.insert.new.self ≡ with_swaption terms rows = c.insert.ensures.rows ∙ ap (insert rows c.in-Err-place.at) c.fresh.ensures ∙ book_puts_in_place book terms found.size c.in-Err-place.at missing in
-    let room = (accepted_list terms c.is_ok.result book.swaptions.count (sym c.judge_list.ensures ∙ c.in_default-judge_list.is)).room in
-    record {
-      few_swaptions = omega (arith, room, c.insert.ensures.count);
-      few_positions = book.few_positions;
-      fair = book.fair;
-      led = ∥∥₁_map book.led (λ x. (listed terms ∷ x.0, list_recorded x.0 book.swaptions c.insert.new.self book.positions book.latest terms x.1 says is));
-    }
+    let terms = c.in-Ok.terms in
+    let was : c.judge_list.result ≡ Ok c.in_ok-at.at = search rules in
+    let judged = subst (ListJudged terms c.place_of-place.result book.swaptions.count) was c.judge_list.ensures in
+    let says = list_judged book terms c.place_of-place.result c.place_of-place.ensures (Some terms) accepted refl (sym judged.1) in
+    let is : rows_in c.insert.new.self ≡ with_swaption terms (rows_in book.swaptions) = rw (c.insert.ensures, c.fresh.ensures) (list_puts_in book terms c.place_of-place.result c.place_of-place.ensures c.in_ok-at.at judged.0) in
+    record { fair = book.fair; led = ∥∥₁_map book.led (λ x. (listed terms ∷ x.0, list_recorded x.0 book.swaptions c.insert.new.self book.positions book.latest terms x.1 (sym says) is)) }
 
-pub returns-in-Err-place : goal.returns-in-Err-place
-returns-in-Err-place c =
-    let book = c.args.self.now in
-    let rows = swaptions_in book.swaptions in
-    let found = c.place_of-place.ensures in
-    let terms = c.in-Some.terms in
-    let stated = sym c.in-Some.is ∙ c.terms.ensures in
-    let missing = subst (Found (λ s. s.terms.number) ltb rows terms.number) c.in-Err-place.is found.found in
-    record {
-      answer =
-          sym c.in_default-judge_list.is ∙ c.judge_list.ensures
-          ∙ ap (λ b. list_answer (Some terms) b book.swaptions.count) c.is_ok.ensures.value
-          ∙ book_judges_list book terms found.size c.place_of-place.result found.found
-          ∙ ap (list_says rows) stated;
-      swaptions = c.insert.ensures.rows ∙ ap (insert rows c.in-Err-place.at) c.fresh.ensures ∙ book_puts_in_place book terms found.size c.in-Err-place.at missing ∙ ap (λ o. with_stated o rows) stated;
-      positions = refl;
-      latest = refl;
-      refused = λ e. let z : ◌≡◌ {A = ℕ} 0 1 = cc in absurd (omega arith);
-    }
+pub returns-clause-answer : goal.returns-clause-answer
+returns-clause-answer c =
+    let was : c.judge_list.result ≡ Ok c.in_ok-at.at = search rules in
+    let judged = subst (ListJudged c.in-Ok.terms c.place_of-place.result c.args.self.now.swaptions.count) was c.judge_list.ensures in
+    list_judged c.args.self.now c.in-Ok.terms c.place_of-place.result c.place_of-place.ensures _ accepted (rw c.in-Ok.is at c.try_from.ensures) (sym judged.1)
+
+pub returns-clause-swaptions : goal.returns-clause-swaptions
+returns-clause-swaptions c =
+    let was : c.judge_list.result ≡ Ok c.in_ok-at.at = search rules in
+    let judged = subst (ListJudged c.in-Ok.terms c.place_of-place.result c.args.self.now.swaptions.count) was c.judge_list.ensures in
+    let stated = rw c.in-Ok.is at c.try_from.ensures in
+    rw (c.insert.ensures, c.fresh.ensures, stated) (list_puts_in c.args.self.now c.in-Ok.terms c.place_of-place.result c.place_of-place.ensures c.in_ok-at.at judged.0)
