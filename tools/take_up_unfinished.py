@@ -1,7 +1,8 @@
 #!/usr/bin/env python3
 """Puts the unfinished work of the folder unfinished/ in the place of what stands there, and removes the folder.
 
-usage: python3 tools/take_up_unfinished.py        at the top, with everything committed
+usage: python3 tools/take_up_unfinished.py        at the top, with everything committed, in a branch at the commit that
+it fits (FITS below): what stands here was rewritten since. Commit it there, and merge the later commits into it.
 
 A file of unfinished/ goes to the same path at the top, without the ending .txt that keeps the toolchain from reading
 it; unfinished/list-of-crates.txt becomes crates.txt; and the files that unfinished/taken-away lists are removed, since
@@ -10,8 +11,11 @@ the work moved what is in them to other crates. docs/PORT.md says what the work 
 
 import os
 import shutil
+import subprocess
+import sys
 
 SHELF = "unfinished"
+FITS = "2bba2c899efa3666feb7e6a06ed4dd2ef090a585"
 
 
 def place(path):
@@ -20,7 +24,13 @@ def place(path):
     return path[: -len(".txt")] if path.endswith((".rt.txt", ".antt.txt")) else path
 
 
+def fits():
+    return subprocess.run(["git", "diff", "--quiet", FITS, "--", "crates", "crates.txt"]).returncode == 0
+
+
 def main():
+    if not fits():
+        sys.exit(f"the unfinished work fits commit {FITS}: branch off there (git switch -c unfinished {FITS})")
     for folder, _, names in os.walk(SHELF):
         for name in names:
             path = os.path.relpath(os.path.join(folder, name), SHELF)
