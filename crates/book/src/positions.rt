@@ -22,7 +22,7 @@ impl Keyed for Position {
     ghost named = { λ p. p.key };
 
     fn key(&self) -> PositionKey {
-        self.key
+        self.holder()
     }
 }
 
