@@ -17,6 +17,12 @@ module _ {K : Type 0} (less : K → K → Bool) (one : Trichotomous less) where
   pub equal_not_less : (a b : K) → a ≡ b → less a b ≡ false
   equal_not_less a b e = ⊎_elim (λ x. absurd (x.1 e)) (⊎_elim (λ x. x.0) (λ x. x.0)) (one a b)
 
+  -- what a comparison tells that does not answer greater
+  pub ranked_up_to : (a b : K) (o : Ordering) → MatchOrdering o (less a b ≡ true) (a ≡ b) (less b a ≡ true) → (o ≡ Greater → ⊥) → less b a ≡ false
+  ranked_up_to a b Less r other = less_not_greater a b r
+  ranked_up_to a b Equal r other = equal_not_less b a (sym r)
+  ranked_up_to a b Greater r other = absurd (other refl)
+
   -- what a comparison with a key that is not less tells, if it does not answer equal
   pub ranked_less : (a b : K) (o : Ordering) → MatchOrdering o (less a b ≡ true) (a ≡ b) (less b a ≡ true) → (o ≡ Equal → ⊥) → less b a ≡ false → less a b ≡ true
   ranked_less a b Less r different h = r

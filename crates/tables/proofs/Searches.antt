@@ -1,11 +1,10 @@
 -- Searches among rows in the order of their keys.
-use Rattle.std.proofs.Common.{◌≡◌, ℕ, ◌+◌, ◌<◌, Bool, true, not, List, [], ◌∷◌, length, get_or, Ok, Err, Result, ap, ⊎_elim, arith}
+use Rattle.std.proofs.Common.{◌≡◌, ℕ, ◌+◌, ◌<◌, Bool, true, false, List, [], ◌∷◌, length, get_or, Ok, Err, Result, ap, ⊎_elim, arith}
 use Rattle.std.proofs.lemmas.List.{get_or_read}
-use Rattle.std.proofs.lemmas.Bool.{cases_order, not-true, not_from_false}
-use Rattle.std.specs.List.Sorted.{IsPartitionedBy}
-use Rattle.tables.specs.Finding.{InOrder, Ascending, Below, Found}
+use Rattle.std.proofs.lemmas.Bool.{cases_order}
+use Rattle.tables.specs.Finding.{InOrder, Ascending, Below, UpTo, Above, Found}
 use Rattle.tables.specs.Orders.{Trichotomous, Transitive}
-use Rattle.tables.proofs.Comparisons.{less_not_greater, equal_not_less, up_to_less, up_to_up_to}
+use Rattle.tables.proofs.Comparisons.{less_not_greater, equal_not_less, up_to_less, less_up_to, up_to_up_to}
 
 -- rows whose keys ascend are in order
 pub ascending_in_order : {X K : Type 0} (key : X → K) (less : K → K → Bool) → Trichotomous less → (rows : List X) → Ascending key less rows → InOrder key less rows
@@ -17,13 +16,17 @@ row_of [] i h = absurd (omega arith)
 row_of (x ∷ xs) i h = x
 
 module _ {X K : Type 0} (key : X → K) (less : K → K → Bool) (one : Trichotomous less) (trans : Transitive less) (rows : List X) (k : K) (order : InOrder key less rows) where
-  -- a test that keeps up to the key passes at the rows before some place and nowhere after
-  pub parted_at : IsPartitionedBy (λ row. not (less k (key row))) rows
-  parted_at i j d le in' test = grind (arith, not-true, not_from_false, order i j d, up_to_up_to less one trans (key (get_or rows i d)) (key (get_or rows j d)) k)
+  -- no greater key at a place, and none before it
+  pub up_to_past : (mid : ℕ) (x : X) → mid < length rows → x ≡ get_or rows mid x → less k (key x) ≡ false → UpTo key less rows k (mid + 1)
+  up_to_past mid x in' read h j d lt = grind (arith, get_or_read rows mid x in' read d, order j mid d, up_to_up_to less one trans (key (get_or rows j d)) (key x) k)
 
   -- a less key at a place, and so before it
   pub below_past : (mid : ℕ) (x : X) → mid < length rows → x ≡ get_or rows mid x → less (key x) k ≡ true → Below key less rows k (mid + 1)
   below_past mid x in' read h j d lt = grind (arith, get_or_read rows mid x in' read d, order j mid d, up_to_less less one trans (key (get_or rows j d)) (key x) k)
+
+  -- a greater key at a place, and so after it
+  pub above_from : (mid : ℕ) (x : X) → mid < length rows → x ≡ get_or rows mid x → less k (key x) ≡ true → Above key less rows k mid
+  above_from mid x in' read h j d le inside = grind (arith, get_or_read rows mid x in' read d, order mid j d, less_up_to less one trans k (key x) (key (get_or rows j d)))
 
 -- for rows in order a search has one answer
 module _ {X K : Type 0} (key : X → K) (less : K → K → Bool) (one : Trichotomous less) (rows : List X) (k : K) (order : InOrder key less rows) where

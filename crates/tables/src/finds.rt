@@ -1,5 +1,5 @@
 // The search for a key among rows in the order of their keys.
-ghost use Rattle.std.specs.Prelude.{◌≡◌, ◌≤◌, length, not};
+ghost use Rattle.std.specs.Prelude.{◌≡◌, ◌≤◌, length};
 ghost use Rattle.tables.specs.Finding.{Above, Answer, Found, InOrder, UpTo};
 
 use crate::keys::{Key, Keyed};
@@ -24,23 +24,26 @@ fn last_with<T: Keyed>(rows: &[T], key: &T::Key) -> Result<usize, usize>
     if end == 0 {
         return Err(0);
     }
-    match rows[end - 1].key().cmp(key) {
+    match rows[end - 1].key().compare(key) {
         Ordering::Equal => Ok(end - 1),
         _ => Err(end),
     }
 }
 
 // The place after the rows with the key and the lesser ones.
+// not `partition_point`, which looks at other rows: where rows are not in order, its answers are others
 fn end_of<T: Keyed>(rows: &[T], key: &T::Key) -> usize
     ensures within { result ≤ length rows.now }
     ensures parts { InOrder T.named T.Key.Key.less rows.now → UpTo T.named T.Key.Key.less rows.now key.now result × Above T.named T.Key.Key.less rows.now key.now result }
 {
-    rows.partition_point(|row| is_up_to(row, key))
-}
-
-// Whether the key of a row is not greater than a key.
-fn is_up_to<T: Keyed>(row: &T, key: &T::Key) -> bool
-    ensures { result ≡ not (T.Key.Key.less key.now (T.named row.now)) }
-{
-    row.key() <= *key
+    let mut low = 0;
+    let mut high = rows.len();
+    while low < high {
+        let mid = low + (high - low) / 2;
+        match rows[mid].key().compare(key) {
+            Ordering::Greater => high = mid,
+            _ => low = mid + 1,
+        }
+    }
+    low
 }

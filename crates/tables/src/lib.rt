@@ -10,5 +10,5 @@ mod totals;
 
 pub use changes::{NoSuchPlace, insert_at, insert_two, replace};
 pub use finds::find;
-pub use keys::{Key, Keyed};
+pub use keys::{Key, Keyed, OrderedKey};
 pub use totals::{Counted, total};

@@ -1,8 +1,12 @@
 // Rows with a key and an amount.
+ghost use Rattle.std.specs.Prelude.{nat_lt};
+ghost use Rattle.std.proofs.Common.{rules};
+
 use crate::changes::{NoSuchPlace, insert_at, replace};
 use crate::finds::find;
-use crate::keys::Keyed;
+use crate::keys::{Key, Keyed};
 use crate::totals::{Counted, total};
+use std::cmp::Ordering;
 
 #[derive(Clone, Copy)]
 struct Row {
@@ -26,6 +30,38 @@ impl Counted for Row {
     fn counted(&self) -> u64 {
         self.amount
     }
+}
+
+// A kind of key that Rust does not compare: the larger number comes first.
+#[derive(Clone, Copy)]
+struct Newest {
+    moment: u16,
+}
+
+impl Key for Newest {
+    ghost less = { λ a b. nat_lt b.moment a.moment };
+
+    ghost exactly_one = { Prim.search rules };
+
+    ghost transitive = { Prim.search rules };
+
+    fn compare(&self, other: &Newest) -> Ordering {
+        other.moment.cmp(&self.moment)
+    }
+}
+
+impl Keyed for Newest {
+    type Key = Newest;
+
+    ghost named = { λ key. key };
+
+    fn key(&self) -> Newest {
+        *self
+    }
+}
+
+fn at(moment: u16) -> Newest {
+    Newest { moment }
 }
 
 fn row_of(name: u16) -> Row {
@@ -97,4 +133,13 @@ fn amounts_added_up(rt: HostRuntime) {
         total(&[largest, row_of(2), largest]),
         36_893_488_147_419_103_231
     );
+}
+
+#[test]
+fn rows_of_keys_that_rust_does_not_compare(rt: HostRuntime) {
+    let rows = [at(8), at(6), at(2)];
+    assert_eq!(rt; find(&rows, &at(9)), Err(0));
+    assert_eq!(rt; find(&rows, &at(6)), Ok(1));
+    assert_eq!(rt; find(&rows, &at(5)), Err(2));
+    assert_eq!(rt; find(&rows, &at(1)), Err(3));
 }

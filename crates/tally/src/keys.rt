@@ -5,8 +5,9 @@ ghost use Rattle.tally.specs.Orders.{before_one, before_transitive};
 ghost use Rattle.tally.specs.Shown.{key_shown, party_shown};
 ghost use Rattle.std.proofs.Common.{rules};
 
+use std::cmp::Ordering;
 use std::fmt;
-use tables::Key;
+use tables::{Key, OrderedKey};
 
 // Parties stand in the order of their fields: participant, client and desk.
 #[derive(Clone, Copy, PartialEq, Eq, PartialOrd, Ord, Debug)]
@@ -38,11 +39,17 @@ impl Party {
 impl Key for PositionKey {
     ghost less = { before };
 
-    ghost ordered = { Prim.search rules };
-
     ghost exactly_one = { before_one };
 
     ghost transitive = { before_transitive };
+
+    fn compare(&self, other: &PositionKey) -> Ordering {
+        self.cmp(other)
+    }
+}
+
+impl OrderedKey for PositionKey {
+    ghost ordered = { Prim.search rules };
 }
 
 // "1 0 2": the participant, the client and the desk.
