@@ -1,5 +1,5 @@
 // What is printed for a line.
-ghost use Rattle.std.specs.Prelude.{◌≡◌, ◌^◌, ◌<◌, length, IfOk, IfSome, Some, string_bytes, codes, decimal};
+ghost use Rattle.std.specs.Prelude.{◌≡◌, ◌^◌, ◌<◌, ◌++◌, length, IfOk, IfSome, OnOk, Some, string_bytes, codes, decimal};
 ghost use Rattle.std.specs.Option.{option_map};
 ghost use Rattle.asktext.specs.Format.{line_says};
 ghost use Rattle.assignment.specs.Choices.{rule_of};
@@ -116,10 +116,20 @@ fn sum(amounts: &[u32]) -> u32
     amounts.iter().sum()
 }
 
+// Writes a value behind a text. Where memory is wanting, the error is that a value could not be written.
+fn put<D: fmt::Display>(text: &mut String, value: &D) -> fmt::Result
+    ensures { OnOk result (IfSome (D.output value.now) (λ shown. string_bytes text.new ≡ string_bytes text.old ++ shown)) }
+{
+    write!(text, "{value}")?;
+    Ok(())
+}
+
 // What is printed for an ask by a rule.
-fn ask_report(heap: Global, rule: &Choice, asked: Asked<'_>) -> Result<String, AllocError>
+fn ask_report(heap: Global, rule: &Choice, asked: Asked<'_>) -> anyhow::Result<String>
     ensures { IfOk result (λ text. AskReported asked.entry.place asked.entry.line.now.rule rule.now asked.entry.line.now.total asked.entry.line.now.block asked.entry.line.now.«open».items (string_bytes text)) }
 {
+    let mut text = String::new(heap);
+    put(&mut text, &asked)?;
     let ask = Ask {
         total: asked.line.total,
         block: asked.line.block,
@@ -133,19 +143,23 @@ fn ask_report(heap: Global, rule: &Choice, asked: Asked<'_>) -> Result<String, A
                 open: ask.open,
                 amounts: &amounts,
             };
-            format!(in heap; "{asked}{accepted}")
+            put(&mut text, &accepted)?;
+            Ok(text)
         }
-        Err(refusal) => format!(in heap; "{asked}the ask is not sound\n{refusal}\n"),
+        Err(refusal) => {
+            writeln!(text, "the ask is not sound\n{refusal}")?;
+            Ok(text)
+        }
     }
 }
 
 // What is printed for an ask, by the rule that bears its number.
-fn number_report(heap: Global, asked: Asked<'_>) -> Result<String, AllocError>
+fn number_report(heap: Global, asked: Asked<'_>) -> anyhow::Result<String>
     ensures { IfOk result (λ text. NumberReported asked.entry.place asked.entry.line.now.rule (rule_of asked.entry.line.now.rule) asked.entry.line.now.total asked.entry.line.now.block asked.entry.line.now.«open».items (string_bytes text)) }
 {
     match Choice::try_from(asked.line.rule) {
         Ok(rule) => ask_report(heap, &rule, asked),
-        Err(unknown) => unreadable(heap, asked.place, &unknown),
+        Err(unknown) => Ok(unreadable(heap, asked.place, &unknown)?),
     }
 }
 
@@ -157,13 +171,13 @@ fn unreadable<R: fmt::Display>(heap: Global, place: u64, reason: &R) -> Result<S
 }
 
 // What is printed for a line: nothing if it is passed over.
-pub fn report(heap: Global, place: u64, line: &[u8]) -> Result<Option<String>, AllocError>
+pub fn report(heap: Global, place: u64, line: &[u8]) -> anyhow::Result<Option<String>>
     ensures { IfOk result (λ printed. Reported place (line_says line.now) (option_map string_bytes printed)) }
 {
     match read_line(heap, line) {
         Ok(None) => Ok(None),
         Ok(Some(ask)) => Ok(Some(number_report(heap, Asked { place, line: &ask })?)),
         Err(ReadError::Unreadable(fault)) => Ok(Some(unreadable(heap, place, &fault)?)),
-        Err(ReadError::OutOfMemory(refused)) => Err(refused),
+        Err(ReadError::OutOfMemory(refused)) => Err(refused.into()),
     }
 }
