@@ -1,9 +1,10 @@
 -- The running rule fits.
-use Rattle.std.specs.Prelude.{◌≡◌, ℕ, zero, suc, ◌+◌, ◌-◌, ◌*◌, ◌/◌, ◌<◌, ◌≤◌, List, [], ◌∷◌, length, slice_index, refl}
+use Rattle.std.specs.Prelude.{◌≡◌, ℕ, zero, suc, ◌+◌, ◌-◌, ◌*◌, ◌/◌, ◌<◌, ◌≤◌, List, [], ◌∷◌, length, slice_index, slice_index_or, refl}
 use Rattle.std.proofs.Common.{sym, ap, ◌∙◌, ⊎_elim, mul-le-mul_right, mul-add, add-mul, zero-add, add-zero, add_assoc, mul-div_cancel, mul-zero, arith}
 use Rattle.std.proofs.Math.Nat.{div-mul-le_self, lt-div-mul-add, zero-div}
 use Rattle.std.proofs.lemmas.Nat.{div_below, le-div}
 use Rattle.std.proofs.lemmas.Bool.{cases_lt}
+use Rattle.assignment.specs.ListSteps.{get_or_le_sum}
 use Rattle.assignment.specs.Asks.{sum_of, Sound, Fit}
 use Rattle.assignment.specs.RunningSums.{running, running_from}
 
@@ -83,3 +84,17 @@ running_fits total block positions sound = ⊎_elim some (λ z. empty (omega ari
         go : (os : List ℕ) → length os ≡ 0 → total ≤ sum_of os → Fit total block os (running total os)
         go [] e c = record { long = refl; whole = omega arith; within = λ i h. absurd (omega arith); not_over = λ i h. absurd (omega arith); not_under = λ i h. absurd (omega arith) }
         go (o ∷ os) e c = absurd (omega arith)
+
+-- what a turn of the rule's loop needs, at a seller
+pub record Turn (total all before o : ℕ) : Type 0 where
+  pub grown : total * before / all ≤ total * (before + o) / all
+  pub most : total * (before + o) / all - total * before / all ≤ o
+
+pub turn : (total block : ℕ) (positions : List ℕ) (all before i : ℕ) → Sound total block positions → all ≡ sum_of positions → i < length positions → Turn total all before (slice_index positions i)
+turn total block positions all before i sound e h =
+    let o = slice_index_or positions i 0 in
+    let some : 0 < all = omega (arith, get_or_le_sum positions i h, sound.opens.each_open i h) in
+    record {
+      grown = rw (mul-add total before o) (grows (total * before) (total * o) all some);
+      most = (seller total all some (omega (arith, sound.covered)) before o).most;
+    }

@@ -1,5 +1,5 @@
 -- Keys in their order, and keys among keys.
-use Rattle.std.specs.Prelude.{◌≡◌, true, false, ◌||◌, List, [], ◌∷◌}
+use Rattle.std.specs.Prelude.{◌≡◌, true, false, ◌||◌, List, [], ◌∷◌, ◌==◌}
 use Rattle.std.proofs.Common.{arith}
 use Rattle.std.proofs.lemmas.Bool.Decides.{nat_tests}
 use Rattle.tables.specs.Orders.{Transitive, Trichotomous}
@@ -28,6 +28,10 @@ same_itself k = grind (arith, nat_tests)
 -- keys of which one stands before the other differ
 pub before_differs : (j k : PositionKey) → before j k ≡ true → (same_key j k ≡ false) × (same_key k j ≡ false)
 before_differs j k b = grind (arith, nat_tests)
+
+-- keys of different swaptions differ
+pub apart_keys : (j k : PositionKey) → (j.swaption == k.swaption) ≡ false → same_key j k ≡ false
+apart_keys j k e = grind (arith, e)
 
 -- a key is among keys with one more if it is that one or was among them
 pub among_with_key : (k j : PositionKey) (keys : List PositionKey) → is_among k (with_key j keys) ≡ (same_key j k || is_among k keys)
